@@ -18,7 +18,7 @@ use crate::spares::Spares;
 use node_parts::rows::{FULL, insert_at, split_into};
 use node_parts::search::precedes;
 use node_parts::{Child, Entry, Node, NodeParts};
-use records::Pair;
+use record_values::Pair;
 use std::alloc::Allocator;
 
 /// Puts a child into a full row, whose upper half goes to an empty inner node.

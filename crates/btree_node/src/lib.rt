@@ -47,7 +47,7 @@ use node_parts::Node;
 use node_parts::descent::Descent;
 pub use placing::InLeaf;
 use placing::put_below;
-use records::{Error, Mark, Pair};
+use record_values::{Error, Mark, Pair};
 use removal::{remove_below, shrink};
 use room::make_room_below;
 use smallvec::SmallVec;
@@ -57,13 +57,13 @@ use std::marker::Model;
 use walk::{above_in, below_in, first_in, last_in};
 
 /// The most entries that a tree can have.
-pub const ENTRIES_MAX: usize = records::LARGE_ENTRIES_MAX as usize;
+pub const ENTRIES_MAX: usize = record_values::LARGE_ENTRIES_MAX as usize;
 
 /// The most levels of a tree.
 pub const LEVELS_MAX: usize = 6;
 
 /// How many entries take four levels at the most.
-pub const SMALL_ENTRIES_MAX: usize = records::ENTRIES_MAX as usize;
+pub const SMALL_ENTRIES_MAX: usize = record_values::ENTRIES_MAX as usize;
 
 /// The most levels of a tree of so few entries.
 pub const SMALL_LEVELS_MAX: usize = 4;

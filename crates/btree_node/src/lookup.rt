@@ -12,7 +12,7 @@ use crate::LEVELS_MAX;
 use crate::inline::Inline;
 use node_parts::descent::Descent;
 use node_parts::{Entry, Node, NodeParts};
-use records::{Mark, Pair, compare_pairs};
+use record_values::{Mark, Pair, compare_pairs};
 use smallvec::SmallVec;
 use std::alloc::Allocator;
 

@@ -5,7 +5,7 @@ ghost use Rattle.node_parts.specs.Balance.{IsTree};
 ghost use Rattle.node_parts.specs.Order.{mark_in, with_mark, IsAscending};
 
 use node_parts::{Node, NodeParts};
-use records::{Mark, Pair};
+use record_values::{Mark, Pair};
 use std::alloc::Allocator;
 
 /// Gives the entry of a pair in a subtree another mark.

@@ -11,7 +11,7 @@ use crate::insertion::lower;
 use crate::lookup::mark_at;
 use node_parts::rows::{FULL, insert_at};
 use node_parts::{Entry, Node, NodeParts};
-use records::{Mark, Pair};
+use record_values::{Mark, Pair};
 use std::alloc::Allocator;
 
 /// What became of a pair that was to be put into its leaf.

@@ -12,7 +12,7 @@ ghost use Rattle.node_parts.specs.Order.{mark_in, IsAscending};
 
 use node_parts::rows::{FULL, LEAST, insert_at};
 use node_parts::{Child, Node, NodeParts};
-use records::Pair;
+use record_values::Pair;
 use std::alloc::Allocator;
 
 /// Moves all of two neighbours to the left one, or an entry or child from the fuller to the other.

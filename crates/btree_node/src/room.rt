@@ -10,7 +10,7 @@ ghost use Rattle.node_parts.specs.Tree.{entries, depth, count, IsLeaf};
 
 use node_parts::rows::{FULL, LEAST, insert_at};
 use node_parts::{Child, Node, NodeParts};
-use records::Pair;
+use record_values::Pair;
 use std::alloc::Allocator;
 
 /// How many entries a full leaf hands to a half full one. Three quarters of both are full then.

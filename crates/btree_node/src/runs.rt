@@ -11,7 +11,7 @@ ghost use Rattle.node_parts.specs.Order.{IsAscending};
 use crate::BTree;
 use node_parts::search::precedes;
 use node_parts::{Entry, Node, NodeParts};
-use records::Pair;
+use record_values::Pair;
 use std::alloc::Allocator;
 
 /// The entries of a subtree's first leaf.

@@ -5,7 +5,7 @@ ghost use Rattle.btree_node.specs.Grown.{AreEnough, AreExactly};
 ghost use Rattle.node_parts.specs.Tree.{an_empty_inner, an_empty_leaf};
 
 use node_parts::Node;
-use records::Error;
+use record_values::Error;
 use std::alloc::Allocator;
 use std::marker::Model;
 

@@ -9,7 +9,7 @@ ghost use Rattle.node_parts.specs.Order.{IsAscending};
 
 use node_parts::search::{entry_place, precedes};
 use node_parts::{Entry, Node, NodeParts};
-use records::Pair;
+use record_values::Pair;
 use std::alloc::Allocator;
 
 /// The first entry of a subtree.

@@ -11,7 +11,7 @@ use Rattle.std.specs.declared.cmp.Ordering.TheVariants.{Equal, Greater, Less}
 use Rattle.record_values.specs.Orders.{pair_cmp, rid_cmp}
 use Rattle.record_values.specs.Values.{Place}
 use Rattle.record_values.specs.declared.pair.Pair.{Pair}
-use Rattle.model.specs.Table.{Index}
+use Rattle.record_values.specs.Entries.{Index}
 use Rattle.core_scan.proofs.Filtered.{has_first, has_later}
 use Rattle.core_scan.specs.Ranges.{is_within}
 use Rattle.core_scan.specs.Visible.{visible}

@@ -10,7 +10,8 @@ use Rattle.record_values.specs.declared.pair.Mark.{Mark}
 use Rattle.record_values.specs.declared.pair.Mark.TheVariants.{Live, Marked}
 use Rattle.record_values.specs.declared.pair.Pair.{Pair}
 use Rattle.model.specs.Following.{IsBuilding}
-use Rattle.model.specs.Table.{Index, Table}
+use Rattle.model.specs.Table.{Table}
+use Rattle.record_values.specs.Entries.{Index}
 use Rattle.model.specs.declared.life.Life.TheVariants.{Absent, Complete}
 use Rattle.core_model.specs.Steps.{is_pair_of}
 use Rattle.core_parts.specs.View.{CoreValue}

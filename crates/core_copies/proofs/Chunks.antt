@@ -9,7 +9,7 @@ use Rattle.record_values.specs.Maps.{key_is, other_key, pair_exact, same_key}
 use Rattle.record_values.specs.Orders.{pair_cmp}
 use Rattle.record_values.specs.declared.pair.Mark.{Mark}
 use Rattle.record_values.specs.declared.pair.Pair.{Pair}
-use Rattle.model.specs.Table.{Index}
+use Rattle.record_values.specs.Entries.{Index}
 use Rattle.store_image_model.specs.Partly.{joined}
 use Rattle.store_image_model.specs.declared.chunk.TheConstants.{CHUNK_ENTRIES}
 use Rattle.store_image_model.proofs.Ordered.{joined_entries}

@@ -10,7 +10,7 @@ use Rattle.record_values.specs.Maps.{alike, get-set_at_other, get-set_at_same, p
 use Rattle.record_values.specs.Orders.{pair_cmp, pair_cmp_total}
 use Rattle.record_values.specs.declared.pair.Mark.{Mark}
 use Rattle.record_values.specs.declared.pair.Pair.{Pair}
-use Rattle.model.specs.Table.{Index}
+use Rattle.record_values.specs.Entries.{Index}
 use Rattle.store_image_model.specs.Partly.{IsUpTo}
 use Rattle.store_image_model.proofs.Steps.{up_to_or_not}
 use Rattle.btree_node.specs.Above.{IsAfter, IsLeastAbove}

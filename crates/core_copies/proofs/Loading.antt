@@ -15,7 +15,8 @@ use Rattle.record_values.specs.declared.row.Row.{Row}
 use Rattle.model.specs.Following.{IsWithin}
 use Rattle.model.specs.Given.{Given}
 use Rattle.model.specs.Inside.{AreEntriesWithin, IsGivenInside}
-use Rattle.model.specs.Table.{Index, Table}
+use Rattle.model.specs.Table.{Table}
+use Rattle.record_values.specs.Entries.{Index}
 use Rattle.sorted_scan.specs.Scans.{HasRun, begun, begun_run}
 use Rattle.core_model.proofs.Laws.{none_reserved, opened_fit}
 use Rattle.core_model.specs.Histories.{FitsStore, Opened, highest_of, opened}

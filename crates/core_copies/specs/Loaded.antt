@@ -1,7 +1,8 @@
 -- A core over what is given.
 use Rattle.record_values.specs.GeometryValue.{GeometryValue}
 use Rattle.model.specs.Given.{Given}
-use Rattle.model.specs.Table.{Index, Table}
+use Rattle.model.specs.Table.{Table}
+use Rattle.record_values.specs.Entries.{Index}
 use Rattle.store_reader.specs.Restored.{given_in}
 use Rattle.store_reader.specs.declared.restored.Restored.{Restored}
 use Rattle.core_model.specs.Histories.{Opened}

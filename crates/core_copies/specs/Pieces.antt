@@ -7,7 +7,8 @@ use Rattle.record_values.specs.declared.row.Row.{Row}
 use Rattle.record_values.specs.declared.pair.Pair.{Pair}
 use Rattle.record_values.specs.declared.pair.Mark.{Mark}
 use Rattle.model.specs.declared.life.Life.{Life}
-use Rattle.model.specs.Table.{Index, Table}
+use Rattle.model.specs.Table.{Table}
+use Rattle.record_values.specs.Entries.{Index}
 use Rattle.model.specs.Cells.{Cells, Pending}
 use Rattle.model.specs.Inside.{AreInside}
 use Rattle.model.specs.Redo.{cells_of}

@@ -10,9 +10,10 @@ use Rattle.record_values.specs.declared.pair.Mark.{Mark}
 use Rattle.record_values.specs.declared.pair.Mark.TheVariants.{Live, Marked}
 use Rattle.record_values.specs.declared.pair.Pair.{Pair}
 use Rattle.record_values.specs.declared.row.Row.{Row}
-use Rattle.model.specs.KeyActions.{after_action}
-use Rattle.model.specs.Table.{Index, IsPairOf, Table}
-use Rattle.model.specs.declared.key_action.KeyAction.TheVariants.{BuildPut}
+use Rattle.record_values.specs.KeyActions.{after_action}
+use Rattle.model.specs.Table.{IsPairOf, Table}
+use Rattle.record_values.specs.Entries.{Index}
+use Rattle.record_values.specs.declared.key_action.KeyAction.TheVariants.{BuildPut}
 use Rattle.model.specs.declared.life.Life.{Life}
 use Rattle.model.specs.declared.life.Life.TheVariants.{Absent, Building, Complete}
 use Rattle.core_model.proofs.Cells.{pair_decided}

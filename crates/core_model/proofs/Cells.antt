@@ -8,7 +8,8 @@ use Rattle.record_values.specs.declared.pair.Mark.{Mark}
 use Rattle.record_values.specs.declared.pair.Mark.TheVariants.{Live, Marked}
 use Rattle.record_values.specs.declared.pair.Pair.{Pair}
 use Rattle.record_values.specs.declared.row.Row.{Row}
-use Rattle.model.specs.Table.{Index, IsPairOf, Table}
+use Rattle.model.specs.Table.{IsPairOf, Table}
+use Rattle.record_values.specs.Entries.{Index}
 use Rattle.model.specs.declared.life.Life.{Life}
 use Rattle.model.specs.declared.life.Life.TheVariants.{Absent, Building}
 use Rattle.core_model.proofs.Frames.{Frame, framed, moved, same_some, txn_here}

@@ -7,7 +7,8 @@ use Rattle.record_values.specs.Values.{Place}
 use Rattle.record_values.specs.declared.pair.Mark.TheVariants.{Live}
 use Rattle.record_values.specs.declared.pair.Pair.{Pair}
 use Rattle.record_values.specs.declared.row.Row.{Row}
-use Rattle.model.specs.Table.{Index, IsPairOf, Table}
+use Rattle.model.specs.Table.{IsPairOf, Table}
+use Rattle.record_values.specs.Entries.{Index}
 use Rattle.model.specs.declared.life.Life.TheVariants.{Absent, Building}
 use Rattle.core_model.proofs.Latest.{holds_more, not_none, phase_same}
 use Rattle.core_model.proofs.Orders.{decided, update_apart, update_here}

@@ -8,7 +8,8 @@ use Rattle.records.specs.Spelling.{new_row, old_row}
 use Rattle.record_values.specs.declared.pair.Mark.{Mark}
 use Rattle.record_values.specs.declared.pair.Mark.TheVariants.{Live, Marked}
 use Rattle.record_values.specs.declared.pair.Pair.{Pair}
-use Rattle.model.specs.Table.{Index, IsPairOf}
+use Rattle.model.specs.Table.{IsPairOf}
+use Rattle.record_values.specs.Entries.{Index}
 use Rattle.model.specs.declared.life.Life.TheVariants.{Absent, Building, Complete}
 use Rattle.core_model.proofs.Builds.{and_right, or_true, pair_by_test}
 use Rattle.core_model.proofs.Cells.{pair_decided}

@@ -8,7 +8,8 @@ use Rattle.record_values.specs.Values.{Place}
 use Rattle.record_values.specs.declared.pair.Mark.TheVariants.{Marked}
 use Rattle.record_values.specs.declared.pair.Pair.{Pair}
 use Rattle.record_values.specs.declared.row.Row.{Row}
-use Rattle.model.specs.Table.{Index, Table}
+use Rattle.model.specs.Table.{Table}
+use Rattle.record_values.specs.Entries.{Index}
 use Rattle.core_model.proofs.Orders.{apart, by_test, level}
 use Rattle.core_model.specs.Changes.{Changes, Unchanged, gone, latest, pair_of, same_key, ◌▹◌}
 use Rattle.core_model.specs.Invariants.{IsChained, IsHolderOf, IsInPhase, IsPhaseOf}

@@ -18,7 +18,8 @@ use Rattle.model.specs.Cells.{Cells, cells_after, reverted}
 use Rattle.model.specs.Given.{Given, IsBeginning, all_entries_reverted, entries_reverted, given_after, opening_cells, recovered}
 use Rattle.model.specs.History.{Deed, Item, life_after, table_after, up_to}
 use Rattle.model.specs.Recovery.{all_reverted}
-use Rattle.model.specs.Table.{Index, Table}
+use Rattle.model.specs.Table.{Table}
+use Rattle.record_values.specs.Entries.{Index}
 use Rattle.model.specs.declared.write.Write.{Write}
 use Rattle.core_model.proofs.Frames.{nat_decided}
 use Rattle.core_model.proofs.Histories.{live_by, opened_holds, told_life, told_table}

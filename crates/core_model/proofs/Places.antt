@@ -13,9 +13,10 @@ use Rattle.record_values.specs.declared.pair.Mark.{Mark}
 use Rattle.record_values.specs.declared.pair.Mark.TheVariants.{Live, Marked}
 use Rattle.record_values.specs.declared.pair.Pair.{Pair}
 use Rattle.record_values.specs.declared.row.Row.{Row}
-use Rattle.model.specs.KeyActions.{after_action}
-use Rattle.model.specs.Table.{Index, Table}
-use Rattle.model.specs.declared.key_action.KeyAction.TheVariants.{BuildPut}
+use Rattle.record_values.specs.KeyActions.{after_action}
+use Rattle.model.specs.Table.{Table}
+use Rattle.record_values.specs.Entries.{Index}
+use Rattle.record_values.specs.declared.key_action.KeyAction.TheVariants.{BuildPut}
 use Rattle.core_model.proofs.Cells.{pair_decided}
 use Rattle.core_model.proofs.Frames.{nat_decided, same_some, txn_apart, txn_here}
 use Rattle.core_model.proofs.Latest.{Gone, gone_is, not_none}

@@ -21,9 +21,10 @@ use Rattle.records.specs.declared.record.Action.{Action}
 use Rattle.records.specs.declared.record.Part.TheVariants.{Slot}
 use Rattle.record_values.specs.declared.row.Row.{Row}
 use Rattle.model.specs.Cells.{Cells, Pending, list_of, noted, set_by, taken_off, with_list}
-use Rattle.model.specs.KeyActions.{after_action}
-use Rattle.model.specs.Table.{Index, Table}
-use Rattle.model.specs.declared.key_action.KeyAction.TheVariants.{BuildPut}
+use Rattle.record_values.specs.KeyActions.{after_action}
+use Rattle.model.specs.Table.{Table}
+use Rattle.record_values.specs.Entries.{Index}
+use Rattle.record_values.specs.declared.key_action.KeyAction.TheVariants.{BuildPut}
 use Rattle.core_model.specs.Records.{HasCells, IsListOf, action_of, begun_action, first_action, is_last, next_action, place_action, set_by_any, undo}
 use Rattle.core_model.specs.Records.{undo_action}
 use Rattle.core_model.proofs.Builds.{build_put_some}

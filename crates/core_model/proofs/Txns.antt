@@ -13,7 +13,8 @@ use Rattle.record_values.specs.declared.pair.Mark.TheVariants.{Live, Marked}
 use Rattle.record_values.specs.declared.pair.Pair.{Pair}
 use Rattle.record_values.specs.declared.row.Row.{Row}
 use Rattle.model.specs.Committed.{writes_of}
-use Rattle.model.specs.Table.{Index, Table, applied}
+use Rattle.model.specs.Table.{Table, applied}
+use Rattle.record_values.specs.Entries.{Index}
 use Rattle.model.specs.declared.life.Life.{Life}
 use Rattle.model.specs.declared.life.Life.TheVariants.{Absent, Building, Complete}
 use Rattle.model.specs.declared.write.Write.{Write}

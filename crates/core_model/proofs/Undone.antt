@@ -5,7 +5,8 @@ use Rattle.std.specs.Prelude.{Bool, List, None, Option, Some, [], ℕ, ◌∷◌
 use Rattle.record_values.specs.Maps.{set_at}
 use Rattle.records.specs.Spelling.{old_row}
 use Rattle.record_values.specs.declared.pair.Mark.TheVariants.{Live, Marked}
-use Rattle.model.specs.Table.{Index, Table}
+use Rattle.model.specs.Table.{Table}
+use Rattle.record_values.specs.Entries.{Index}
 use Rattle.core_model.specs.Changes.{Changes, Unchanged, new_pair, old_pair, ◌▹◌}
 use Rattle.core_model.specs.Histories.{Opened}
 use Rattle.core_model.specs.States.{Active, State}

@@ -8,7 +8,8 @@ use Rattle.record_values.specs.Values.{Place}
 use Rattle.record_values.specs.declared.pair.Mark.TheVariants.{Live, Marked}
 use Rattle.record_values.specs.declared.pair.Pair.{Pair}
 use Rattle.record_values.specs.declared.row.Row.{Row}
-use Rattle.model.specs.Table.{Index, IsPairOf, Table, applied}
+use Rattle.model.specs.Table.{IsPairOf, Table, applied}
+use Rattle.record_values.specs.Entries.{Index}
 use Rattle.model.specs.declared.life.Life.{Life}
 use Rattle.model.specs.declared.life.Life.TheVariants.{Absent, Building, Complete}
 use Rattle.core_model.specs.Changes.{Changes, Unchanged, latest, as_list, new_pair, old_pair, pair_of, ◌▹◌}

@@ -4,7 +4,8 @@ use Rattle.std.specs.Ordering.{nat_cmp}
 use Rattle.std.specs.Prelude.{Bool, Option, ℕ}
 use Rattle.record_values.specs.Values.{Place}
 use Rattle.record_values.specs.declared.pair.Pair.{Pair}
-use Rattle.model.specs.Table.{Index, Table}
+use Rattle.model.specs.Table.{Table}
+use Rattle.record_values.specs.Entries.{Index}
 use Rattle.model.specs.declared.life.Life.{Life}
 use Rattle.core_model.specs.Changes.{Changes}
 

@@ -13,9 +13,10 @@ use Rattle.record_values.specs.declared.pair.Mark.TheVariants.{Live, Marked}
 use Rattle.record_values.specs.declared.pair.Pair.{Pair}
 use Rattle.record_values.specs.declared.row.Row.{Row}
 use Rattle.model.specs.Committed.{writes_of}
-use Rattle.model.specs.KeyActions.{after_action}
-use Rattle.model.specs.Table.{Index, Table, applied}
-use Rattle.model.specs.declared.key_action.KeyAction.TheVariants.{BuildPut}
+use Rattle.record_values.specs.KeyActions.{after_action}
+use Rattle.model.specs.Table.{Table, applied}
+use Rattle.record_values.specs.Entries.{Index}
+use Rattle.record_values.specs.declared.key_action.KeyAction.TheVariants.{BuildPut}
 use Rattle.model.specs.declared.life.Life.{Life}
 use Rattle.model.specs.declared.life.Life.TheVariants.{Absent, Building, Complete}
 pub use Rattle.model.specs.Following.{IsBuilding}

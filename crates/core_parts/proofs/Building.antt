@@ -19,9 +19,9 @@ use Rattle.record_values.specs.declared.pair.Pair.{Pair}
 use Rattle.record_values.specs.declared.row.Row.{Row}
 use Rattle.heap_pages.specs.Pages.{IsPairOnPage, Rows}
 use Rattle.model.specs.Following.{IsBuilding}
-use Rattle.model.specs.KeyActions.{after_action}
-use Rattle.model.specs.Table.{Index}
-use Rattle.model.specs.declared.key_action.KeyAction.TheVariants.{BuildPut}
+use Rattle.record_values.specs.KeyActions.{after_action}
+use Rattle.record_values.specs.Entries.{Index}
+use Rattle.record_values.specs.declared.key_action.KeyAction.TheVariants.{BuildPut}
 use Rattle.model.specs.declared.life.Life.{Life}
 use Rattle.model.specs.declared.life.Life.TheVariants.{Absent, Building, Complete}
 use Rattle.marked_index.specs.Index.{IndexValue, IsAbsent, IsFull, entries_after}

@@ -9,9 +9,9 @@ use Rattle.record_values.specs.Orders.{pair_cmp, is_above}
 use Rattle.record_values.specs.declared.error.Error.{Error}
 use Rattle.record_values.specs.declared.pair.Mark.{Mark}
 use Rattle.record_values.specs.declared.pair.Pair.{Pair}
-use Rattle.model.specs.KeyActions.{after_action}
+use Rattle.record_values.specs.KeyActions.{after_action}
 use Rattle.model.specs.Pairs.{is_indexed}
-use Rattle.model.specs.declared.key_action.KeyAction.TheVariants as key
+use Rattle.record_values.specs.declared.key_action.KeyAction.TheVariants as key
 use Rattle.model.specs.declared.life.Life.{Life}
 use Rattle.model.specs.declared.life.Life.TheVariants.{Absent, Building, Complete}
 use Rattle.marked_index.specs.Above.{IsAfter, IsLeastAbove}

@@ -8,7 +8,7 @@ use Rattle.record_values.specs.declared.pair.Mark.{Mark}
 use Rattle.record_values.specs.declared.pair.Mark.TheVariants.{Live, Marked}
 use Rattle.record_values.specs.declared.pair.Pair.{Pair}
 use Rattle.model.specs.Pairs.{is_indexed}
-use Rattle.model.specs.Table.{Index}
+use Rattle.record_values.specs.Entries.{Index}
 use Rattle.marked_index.specs.Passing.{IsBehindLive, IsLiveNext, IsLivePath}
 use Rattle.core_model.specs.Events.{Cleaner, Event, Kept}
 use Rattle.core_parts.specs.Passing.{HasKept, HasPassedRun, PassesLive}

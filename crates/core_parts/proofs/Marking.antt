@@ -11,8 +11,8 @@ use Rattle.record_values.specs.declared.pair.Mark.{Mark}
 use Rattle.record_values.specs.declared.pair.Mark.TheVariants.{Live, Marked}
 use Rattle.record_values.specs.declared.pair.Pair.{Pair}
 use Rattle.records.specs.RecordValue.{RecordValue}
-use Rattle.model.specs.KeyActions.{after_action}
-use Rattle.model.specs.declared.key_action.KeyAction.TheVariants.{TxnMark, TxnPut}
+use Rattle.record_values.specs.KeyActions.{after_action}
+use Rattle.record_values.specs.declared.key_action.KeyAction.TheVariants.{TxnMark, TxnPut}
 use Rattle.marked_index.specs.Index.{IndexValue, IsAbsent, after_txn_action, pledges_used}
 use Rattle.marked_index.specs.declared.index.Stepped.{Stepped}
 use Rattle.marked_index.specs.declared.index.Stepped.TheVariants.{Added, Found}

@@ -15,7 +15,7 @@ use Rattle.record_values.specs.declared.pair.Mark.TheVariants.{Marked}
 use Rattle.record_values.specs.declared.limits.TheConstants.{PLACES_PER_CHANGE}
 use Rattle.record_values.specs.Orders.{pair_cmp_total}
 use Rattle.marked_index.specs.Index.{pledges_used}
-use Rattle.model.specs.Table.{Index}
+use Rattle.record_values.specs.Entries.{Index}
 use Rattle.core_model.specs.States.{OldMarked}
 use Rattle.txn_table.specs.declared.progress.Progress.TheVariants.{OwesRow}
 use Rattle.std.proofs.Common.{is_some, ◌-◌, ◌≤◌}

@@ -16,7 +16,8 @@ use Rattle.record_values.specs.declared.pair.Pair.{Pair}
 use Rattle.model.specs.declared.life.Life.{Life}
 use Rattle.model.specs.declared.life.Life.TheVariants.{Absent, Building, Complete}
 use Rattle.model.specs.Pairs.{is_indexed}
-use Rattle.model.specs.Table.{Index, Table}
+use Rattle.model.specs.Table.{Table}
+use Rattle.record_values.specs.Entries.{Index}
 use Rattle.marked_index.specs.Above.{IsAfter, IsLeastAbove}
 use Rattle.core_model.specs.Histories.{CanOpen, FitsStore}
 use Rattle.core_parts.specs.Opening.{EachIsShown, EachMayStand, opened_of}

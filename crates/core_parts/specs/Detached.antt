@@ -1,5 +1,5 @@
 -- What an index that was dropped hands to its caller.
-use Rattle.model.specs.Table.{Index}
+use Rattle.record_values.specs.Entries.{Index}
 use Rattle.marked_index.specs.Contents.{contents}
 use Rattle.core_parts.specs.declared.parts.Detached.{Detached}
 

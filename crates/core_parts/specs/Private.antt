@@ -39,7 +39,7 @@ use Rattle.core_steps.specs.declared.step.Step.{Step}
 use Rattle.core_steps.specs.declared.step.Cell.TheVariants as cell
 use Rattle.model.specs.declared.life.Life.TheVariants.{Absent, Building, Complete}
 use Rattle.model.specs.Pairs.{is_indexed, new_pair}
-use Rattle.model.specs.declared.key_action.KeyAction.{KeyAction}
+use Rattle.record_values.specs.declared.key_action.KeyAction.{KeyAction}
 use Rattle.sorted_scan.specs.Scans.{begun, HasRun}
 use Rattle.sorted_scan.specs.Runs.{HandedOut, ScanRun, Took, with_step}
 use Rattle.marked_index.specs.Index.{pledges_used, IsAbsent, IsFull, entries_after}

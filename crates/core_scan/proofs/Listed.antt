@@ -13,7 +13,7 @@ use Rattle.record_values.specs.Orders.{pair_cmp}
 use Rattle.record_values.specs.declared.pair.Mark.{Mark}
 use Rattle.record_values.specs.declared.pair.Mark.TheVariants.{Live, Marked}
 use Rattle.record_values.specs.declared.pair.Pair.{Pair}
-use Rattle.model.specs.Table.{Index}
+use Rattle.record_values.specs.Entries.{Index}
 use Rattle.core_scan.specs.Ranges.{is_within}
 use Rattle.core_scan.specs.Visible.{is_live, is_shown, visible}
 use Rattle.core_scan.specs.declared.range.KeyRange.{KeyRange}

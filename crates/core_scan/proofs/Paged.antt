@@ -11,7 +11,7 @@ use Rattle.std.specs.declared.cmp.Ordering.TheVariants.{Less}
 use Rattle.std.specs.Prelude.{filter}
 use Rattle.record_values.specs.Orders.{pair_cmp, is_above}
 use Rattle.record_values.specs.declared.pair.Pair.{Pair}
-use Rattle.model.specs.Table.{Index}
+use Rattle.record_values.specs.Entries.{Index}
 use Rattle.core_scan.specs.Visible.{last_or, left_of, next_after, visible}
 use Rattle.core_scan.specs.declared.range.KeyRange.{KeyRange}
 use Rattle.core_scan.proofs.Filtered.{all_pass, all_take, all_weaker, filter_all, filter_within}

@@ -12,7 +12,7 @@ use Rattle.std.specs.declared.cmp.Ordering.{Ordering}
 use Rattle.std.specs.declared.cmp.Ordering.TheVariants.{Less}
 use Rattle.record_values.specs.Orders.{pair_cmp}
 use Rattle.record_values.specs.declared.pair.Pair.{Pair}
-use Rattle.model.specs.Table.{Index}
+use Rattle.record_values.specs.Entries.{Index}
 use Rattle.core_scan.specs.Backward.{is_before, left_before}
 use Rattle.core_scan.specs.Visible.{last_or, next_after, visible}
 use Rattle.core_scan.specs.declared.range.KeyRange.{KeyRange}

@@ -13,7 +13,7 @@ use Rattle.record_values.specs.Maps.{pair_exact}
 use Rattle.record_values.specs.Orders.{pair_cmp, pair_cmp_total, is_above}
 use Rattle.record_values.specs.declared.pair.Mark.{Mark}
 use Rattle.record_values.specs.declared.pair.Pair.{Pair}
-use Rattle.model.specs.Table.{Index}
+use Rattle.record_values.specs.Entries.{Index}
 use Rattle.btree_node.specs.Above.{IsAfter, IsLeastAbove}
 use Rattle.core_scan.specs.Ranges.{is_within}
 use Rattle.core_scan.specs.Visible.{is_live, is_shown, left_of, visible}

@@ -14,7 +14,7 @@ use Rattle.std.specs.declared.cmp.Ordering.TheVariants.{Equal, Greater, Less}
 use Rattle.record_values.specs.Maps.{pair_exact}
 use Rattle.record_values.specs.Orders.{pair_cmp, pair_cmp_total}
 use Rattle.record_values.specs.declared.pair.Pair.{Pair}
-use Rattle.model.specs.Table.{Index}
+use Rattle.record_values.specs.Entries.{Index}
 use Rattle.btree_node.specs.Below.{IsBefore, IsGreatestBelow}
 use Rattle.core_scan.specs.Backward.{is_before, left_before}
 use Rattle.core_scan.specs.Ranges.{is_within}

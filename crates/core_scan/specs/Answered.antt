@@ -4,7 +4,7 @@ use Rattle.record_values.specs.declared.error.Error.{Error}
 use Rattle.record_values.specs.declared.error.Error.TheVariants.{NoIndex, NoMemory, NotBuilt}
 use Rattle.record_values.specs.declared.pair.Pair.{Pair}
 use Rattle.model.specs.Following.{IsBuilding}
-use Rattle.model.specs.Table.{Index}
+use Rattle.record_values.specs.Entries.{Index}
 use Rattle.model.specs.declared.life.Life.{Life}
 use Rattle.model.specs.declared.life.Life.TheVariants.{Absent, Complete}
 use Rattle.core_scan.specs.Visible.{left_of, next_after, visible}

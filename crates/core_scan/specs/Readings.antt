@@ -1,7 +1,7 @@
 -- Pages that are read one behind another.
 use Rattle.std.specs.Prelude.{List, Option, Some, [], take, ℕ, ◌++◌, ◌∷◌, ◌≡◌}
 use Rattle.record_values.specs.declared.pair.Pair.{Pair}
-use Rattle.model.specs.Table.{Index}
+use Rattle.record_values.specs.Entries.{Index}
 use Rattle.core_scan.specs.Visible.{left_of, next_after}
 use Rattle.core_scan.specs.declared.range.KeyRange.{KeyRange}
 

@@ -4,7 +4,7 @@ ghost use Rattle.std.specs.Option.{option_copied};
 ghost use Rattle.btree_node.specs.Below.{IsGreatestBelow};
 ghost use Rattle.record_values.specs.declared.pair.Pair.{Pair};
 ghost use Rattle.model.specs.Following.{IsBuilding};
-ghost use Rattle.model.specs.Table.{Index};
+ghost use Rattle.record_values.specs.Entries.{Index};
 ghost use Rattle.nsf_core.specs.Value.{value_of};
 ghost use Rattle.core_scan.specs.Backward.{is_before, left_before};
 ghost use Rattle.core_scan.specs.Visible.{next_after};

@@ -6,7 +6,7 @@ ghost use Rattle.std.specs.List.Sorted.{IsStrictlySortedBy};
 ghost use Rattle.record_values.specs.Orders.{pair_cmp};
 ghost use Rattle.record_values.specs.declared.pair.Mark.TheVariants.{Live};
 ghost use Rattle.record_values.specs.declared.pair.Pair.{Pair};
-ghost use Rattle.model.specs.Table.{Index};
+ghost use Rattle.record_values.specs.Entries.{Index};
 ghost use Rattle.record_values.specs.Orders.{is_above};
 ghost use Rattle.core_scan.specs.Backward.{ReadingBack, is_before, left_before};
 ghost use Rattle.core_scan.specs.Ranges.{is_within};

@@ -3,7 +3,7 @@ ghost use Rattle.std.specs.Prelude.{◌≡◌, ◌&&◌, [], ◌∷◌, None, So
 ghost use Rattle.std.specs.Option.{option_copied};
 ghost use Rattle.btree_node.specs.Runs.{IsRunAbove};
 ghost use Rattle.record_values.specs.declared.pair.Pair.{Pair};
-ghost use Rattle.model.specs.Table.{Index};
+ghost use Rattle.record_values.specs.Entries.{Index};
 ghost use Rattle.record_values.specs.Orders.{is_above};
 ghost use Rattle.nsf_core.specs.Value.{value_of};
 ghost use Rattle.core_scan.specs.Visible.{left_of};

@@ -5,7 +5,7 @@ use Rattle.std.specs.FinMap.{FinMap, code, entries, get, retain_keys, from_sorte
 use Rattle.std.specs.Coded.{Coded, code_by, coded×, coded_ℕ}
 use Rattle.record_values.specs.Values.{Place}
 use Rattle.record_values.specs.Orders.{rid_cmp}
-use Rattle.records.specs.Codes.{coded_rid, coded_row}
+use Rattle.record_values.specs.Codes.{coded_rid, coded_row}
 use Rattle.record_values.specs.declared.rid.TheConstants.{SLOTS_PER_PAGE}
 use Rattle.record_values.specs.declared.row.Row.{Row}
 use Rattle.record_values.specs.declared.pair.Pair.{Pair}

@@ -4,7 +4,7 @@ use Rattle.std.specs.Ordering.{nat_cmp}
 use Rattle.std.specs.FinMap.{FinMap, code, get, from_sorted}
 use Rattle.std.specs.Coded.{Coded, coded_ℕ}
 use Rattle.record_values.specs.Values.{Place}
-use Rattle.records.specs.Codes.{coded_row}
+use Rattle.record_values.specs.Codes.{coded_row}
 use Rattle.record_values.specs.declared.rid.TheConstants.{SLOTS_PER_PAGE}
 use Rattle.record_values.specs.declared.row.Row.{Row}
 

@@ -2,7 +2,8 @@
 use Rattle.std.proofs.Common.{◌≡◌, ◌⊎◌, ℕ, Bool, true, false, Option, None, Some, inl, inr, refl}
 use Rattle.std.specs.Coded.{Coded, code_by, coded_bool, coded_option, coded_ℕ, coded×, coded⊎}
 use Rattle.records.specs.ChangeValue.{ChangeValue}
-use Rattle.records.specs.Codes.{coded_change, coded_pair}
+use Rattle.records.specs.Codes.{coded_change}
+use Rattle.record_values.specs.Codes.{coded_pair}
 use Rattle.records.specs.RecordValue.{RecordValue}
 use Rattle.record_values.specs.declared.pair.Pair.{Pair}
 use Rattle.records.specs.declared.record.Action.{Action}

@@ -7,7 +7,8 @@ use Rattle.std.specs.FinMap.{code, get, get-empty}
 use Rattle.std.specs.Ordering.{nat_cmp}
 use Rattle.std.specs.Prelude.{Err, IfOk, Ok, Result, unwrap_or}
 use Rattle.records.specs.ChangeValue.{ChangeValue}
-use Rattle.records.specs.Codes.{coded_change, coded_mark, coded_pair, coded_rid, coded_row}
+use Rattle.records.specs.Codes.{coded_change}
+use Rattle.record_values.specs.Codes.{coded_mark, coded_pair, coded_rid, coded_row}
 use Rattle.record_values.specs.GeometryValue.{GeometryValue}
 use Rattle.records.specs.RecordValue.{RecordValue}
 use Rattle.record_values.specs.declared.error.Error.{Error}

@@ -5,7 +5,7 @@ use Rattle.std.specs.Coded.{Coded-set, coded_option}
 use Rattle.std.specs.FinMap.{get}
 use Rattle.std.specs.Option.{option_map}
 use Rattle.std.specs.Prelude.{slice_get, unwrap_or}
-use Rattle.records.specs.Codes.{coded_row}
+use Rattle.record_values.specs.Codes.{coded_row}
 use Rattle.records.specs.RecordValue.{RecordValue}
 use Rattle.record_values.specs.Values.{Place}
 use Rattle.record_values.specs.declared.error.Error.{Error}

@@ -9,9 +9,9 @@ use Rattle.record_values.specs.Orders.{pair_cmp_total}
 use Rattle.record_values.specs.declared.pair.Pair.{Pair}
 use Rattle.record_values.specs.declared.pair.Mark.{Mark}
 use Rattle.record_values.specs.declared.pair.Mark.TheVariants.{Live, Marked}
-use Rattle.model.specs.declared.key_action.KeyAction.TheVariants.{BuildPut, Clean}
-use Rattle.model.specs.KeyActions.{after_action}
-use Rattle.model.specs.Table.{Index}
+use Rattle.record_values.specs.declared.key_action.KeyAction.TheVariants.{BuildPut, Clean}
+use Rattle.record_values.specs.KeyActions.{after_action}
+use Rattle.record_values.specs.Entries.{Index}
 use Rattle.btree_node.specs.Placed.{outcome}
 use Rattle.btree_node.specs.declared.placing.InLeaf.TheVariants.{Added, Found, NoRoom}
 use Rattle.record_values.specs.declared.geometry.TheConstants.{LARGE_ENTRIES_MAX}

@@ -14,7 +14,7 @@ use Rattle.record_values.specs.declared.geometry.TheConstants.{LARGE_ENTRIES_MAX
 use Rattle.record_values.specs.declared.pair.Mark.{Mark}
 use Rattle.record_values.specs.declared.pair.Mark.TheVariants.{Live, Marked}
 use Rattle.record_values.specs.declared.pair.Pair.{Pair}
-use Rattle.model.specs.Table.{Index}
+use Rattle.record_values.specs.Entries.{Index}
 use Rattle.marked_index.specs.Counts.{IsCounted, is_marked, live_in, marked_in, marked_of}
 use Rattle.marked_index.proofs.Actions.{by_mark, len_added, len_changed, len_removed}
 

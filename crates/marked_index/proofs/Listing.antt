@@ -14,7 +14,7 @@ use Rattle.record_values.specs.Orders.{rid_cmp, rid_cmp_total, rid_cmp-IsAntisym
 use Rattle.record_values.specs.declared.pair.Pair.{Pair}
 use Rattle.record_values.specs.declared.pair.Mark.{Mark}
 use Rattle.record_values.specs.declared.pair.Mark.TheVariants.{Live}
-use Rattle.model.specs.Table.{Index}
+use Rattle.record_values.specs.Entries.{Index}
 use Rattle.marked_index.specs.Shown.{mark_at, IsAfter, IsNextOf}
 use Rattle.marked_index.proofs.Places.{pair_at, pair_cmp-one_key}
 

@@ -17,7 +17,7 @@ use Rattle.record_values.specs.Values.{Place}
 use Rattle.record_values.specs.declared.pair.Mark.{Mark}
 use Rattle.record_values.specs.declared.pair.Mark.TheVariants.{Live, Marked}
 use Rattle.record_values.specs.declared.pair.Pair.{Pair}
-use Rattle.model.specs.Table.{Index}
+use Rattle.record_values.specs.Entries.{Index}
 use Rattle.marked_index.specs.Shown.{mark_at}
 use Rattle.marked_index.proofs.Places.{pair_at, pair_cmp-one_key}
 

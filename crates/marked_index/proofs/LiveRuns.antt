@@ -9,7 +9,7 @@ use Rattle.record_values.specs.Orders.{pair_cmp, pair_cmp_total}
 use Rattle.record_values.specs.declared.pair.Mark.{Mark}
 use Rattle.record_values.specs.declared.pair.Mark.TheVariants.{Live, Marked}
 use Rattle.record_values.specs.declared.pair.Pair.{Pair}
-use Rattle.model.specs.Table.{Index}
+use Rattle.record_values.specs.Entries.{Index}
 use Rattle.btree_node.specs.Above.{IsLeastAbove}
 use Rattle.btree_node.specs.Runs.{IsRunAbove}
 use Rattle.node_parts.specs.declared.Entry.{Entry}

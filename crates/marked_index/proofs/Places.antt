@@ -12,7 +12,7 @@ use Rattle.record_values.specs.Values.{Place}
 use Rattle.record_values.specs.Orders.{rid_cmp, pair_cmp, rid_cmp_total}
 use Rattle.record_values.specs.declared.pair.Pair.{Pair}
 use Rattle.record_values.specs.declared.pair.Mark.{Mark}
-use Rattle.model.specs.Table.{Index}
+use Rattle.record_values.specs.Entries.{Index}
 use Rattle.btree_node.specs.Above.{IsLeastAbove}
 use Rattle.marked_index.specs.Shown.{mark_at, IsNextOf}
 

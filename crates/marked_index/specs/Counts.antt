@@ -5,7 +5,7 @@ use Rattle.record_values.specs.declared.geometry.TheConstants.{LARGE_ENTRIES_MAX
 use Rattle.record_values.specs.declared.pair.Pair.{Pair}
 use Rattle.record_values.specs.declared.pair.Mark.{Mark}
 use Rattle.record_values.specs.declared.pair.Mark.TheVariants.{Live, Marked}
-use Rattle.model.specs.Table.{Index}
+use Rattle.record_values.specs.Entries.{Index}
 
 -- whether this is the mark of a marked entry
 abbrev pub is_marked : Mark → Bool

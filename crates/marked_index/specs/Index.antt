@@ -2,14 +2,14 @@
 use Rattle.std.specs.Prelude.{◌≡◌, ℕ, ◌+◌, ◌-◌, ◌≤◌, Option, Some, None, refl}
 use Rattle.std.specs.Coded.{Coded, code_by, coded×, coded_ℕ}
 use Rattle.std.specs.FinMap as map
-use Rattle.records.specs.Codes.{coded_pair, coded_mark}
+use Rattle.record_values.specs.Codes.{coded_pair, coded_mark}
 use Rattle.record_values.specs.Maps.{set_at}
 use Rattle.record_values.specs.declared.geometry.TheConstants.{LARGE_ENTRIES_MAX}
 use Rattle.record_values.specs.declared.pair.Pair.{Pair}
 use Rattle.record_values.specs.declared.pair.Mark.{Mark}
-use Rattle.model.specs.declared.key_action.KeyAction.{KeyAction}
-use Rattle.model.specs.KeyActions.{after_action}
-use Rattle.model.specs.Table.{Index}
+use Rattle.record_values.specs.declared.key_action.KeyAction.{KeyAction}
+use Rattle.record_values.specs.KeyActions.{after_action}
+use Rattle.record_values.specs.Entries.{Index}
 
 -- the entries, how many places are reserved for changes and not used yet, and how many entries there is room for
 pub record IndexValue : Type 0 where

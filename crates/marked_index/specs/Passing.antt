@@ -3,7 +3,7 @@ use Rattle.std.specs.Prelude.{◌≡◌, ◌<◌, ℕ, not, List, [], ◌∷◌,
 use Rattle.std.specs.List.{prefix_len}
 use Rattle.record_values.specs.declared.pair.Mark.TheVariants.{Live}
 use Rattle.record_values.specs.declared.pair.Pair.{Pair}
-use Rattle.model.specs.Table.{Index}
+use Rattle.record_values.specs.Entries.{Index}
 use Rattle.btree_node.specs.Above.{IsLeastAbove}
 use Rattle.node_parts.specs.declared.Entry.{Entry}
 use Rattle.marked_index.specs.Counts.{is_marked}

@@ -5,7 +5,7 @@ use Rattle.std.specs.declared.cmp.Ordering.TheVariants.{Less}
 use Rattle.record_values.specs.Values.{Place}
 use Rattle.record_values.specs.Orders.{rid_cmp}
 use Rattle.record_values.specs.declared.pair.Mark.{Mark}
-use Rattle.model.specs.Table.{Index}
+use Rattle.record_values.specs.Entries.{Index}
 
 -- the mark of the key at a place
 abbrev pub mark_at : Index → List ℕ → Place → Option Mark

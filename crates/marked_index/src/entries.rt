@@ -2,7 +2,7 @@
 ghost use Rattle.std.specs.Prelude.{◌≡◌, ◌<◌, ◌≤◌, ◌+◌, ◌↔◌, [], None, Some, false, IfErr, IfOk, IsTrue, OnErr, OnOk};
 ghost use Rattle.std.specs.FinMap as map;
 ghost use Rattle.std.specs.Option.{option_copied};
-ghost use Rattle.model.specs.declared.key_action.KeyAction.{KeyAction};
+ghost use Rattle.record_values.specs.declared.key_action.KeyAction.{KeyAction};
 ghost use Rattle.btree_node.specs.Above.{IsLeastAbove};
 ghost use Rattle.btree_node.specs.Below.{IsGreatestBelow};
 ghost use Rattle.btree_node.specs.Contents.{contents};
@@ -11,7 +11,7 @@ ghost use Rattle.marked_index.specs.Counts.{marked_in, marked_of};
 ghost use Rattle.marked_index.specs.Index.{IsAbsent, entries_after};
 
 use btree_node::{BTree, Cleared, ENTRIES_MAX, Entry, InLeaf};
-use records::{Error, Mark, Pair};
+use record_values::{Error, Mark, Pair};
 use std::alloc::Allocator;
 use std::marker::Model;
 
@@ -24,8 +24,8 @@ pub(crate) struct Entries<A: Allocator> {
 
 impl<A: Allocator> Model for Entries<A> {
     ghost use Rattle.std.specs.FinMap as map;
-    ghost use Rattle.records.specs.Codes.{coded_pair, coded_mark};
-    ghost use Rattle.model.specs.Table.{Index};
+    ghost use Rattle.record_values.specs.Codes.{coded_pair, coded_mark};
+    ghost use Rattle.record_values.specs.Entries.{Index};
     ghost use Rattle.btree_node.specs.Contents.{contents};
     ghost use Rattle.marked_index.specs.Counts.{IsCounted};
 

@@ -8,7 +8,7 @@ ghost use Rattle.std.specs.declared.cmp.Ordering.{Ordering};
 ghost use Rattle.record_values.specs.Maps.{set_at};
 ghost use Rattle.record_values.specs.Orders.{rid_cmp};
 ghost use Rattle.record_values.specs.Values.{Place};
-ghost use Rattle.model.specs.declared.key_action.KeyAction.{KeyAction};
+ghost use Rattle.record_values.specs.declared.key_action.KeyAction.{KeyAction};
 ghost use Rattle.btree_node.specs.Above.{IsLeastAbove};
 ghost use Rattle.btree_node.specs.Below.{IsGreatestBelow};
 ghost use Rattle.btree_node.specs.Contents.{contents};
@@ -20,7 +20,7 @@ ghost use Rattle.marked_index.specs.Shown.{IsNextOf, mark_at};
 
 use crate::entries::Entries;
 use btree_node::{Cleared, Entry};
-use records::{Error, Geometry, Key, Mark, PLACES_PER_CHANGE, Pair, Rid};
+use record_values::{Error, Geometry, Key, Mark, PLACES_PER_CHANGE, Pair, Rid};
 use std::alloc::Allocator;
 use std::marker::Model;
 

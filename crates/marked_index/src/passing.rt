@@ -5,7 +5,7 @@ ghost use Rattle.marked_index.specs.Passing.{IsBehindLive, IsLiveNext, live_fron
 
 use crate::index::MarkedIndex;
 use btree_node::Entry;
-use records::{Mark, Pair};
+use record_values::{Mark, Pair};
 use std::alloc::Allocator;
 
 // How many live entries these begin with.

@@ -20,7 +20,8 @@ use Rattle.records.specs.declared.record.IndexAction.TheVariants.{Create, BuildP
 use Rattle.records.specs.declared.record.Action.{Action}
 use Rattle.records.specs.declared.record.Action.TheVariants.{OfTxn, OfIndex}
 use Rattle.model.specs.Pairs.{pair_at, with_entry}
-use Rattle.model.specs.Table.{Table, Index}
+use Rattle.model.specs.Table.{Table}
+use Rattle.record_values.specs.Entries.{Index}
 use Rattle.model.specs.Cells.{Cells, cells_after, set_by, rows_by, entries_by, pending_by, life_by, list_of}
 use Rattle.model.specs.Following.{AllowsPart, AreFollowing, CanFollow, CanFollowBy, CanFollowIndex, CanFollowTxn, IsAdmitted, IsLastOf, IsNextOn}
 use Rattle.model.specs.Images.{IsCopied}

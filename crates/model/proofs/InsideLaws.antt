@@ -23,7 +23,7 @@ use Rattle.records.specs.declared.record.Action.{Action}
 use Rattle.records.specs.declared.record.Action.TheVariants.{OfTxn, OfIndex}
 use Rattle.model.specs.declared.life.Life.{Life}
 use Rattle.model.specs.declared.life.Life.TheVariants.{Absent}
-use Rattle.model.specs.Table.{Index}
+use Rattle.record_values.specs.Entries.{Index}
 use Rattle.model.specs.Pairs.{gone, is_indexed, new_pair, old_pair, pair_at, pair_of, same_key, with_entry}
 use Rattle.model.specs.Cells.{Cells, Pending, cells_after, entries_by_index, entries_by_txn, life_by_index, list_of, set_by, with_list}
 use Rattle.model.specs.Following.{AreFollowing, CanFollowBy, CanFollowIndex, CanFollowTxn}

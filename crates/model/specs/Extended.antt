@@ -6,7 +6,8 @@ use Rattle.record_values.specs.Values.{Place}
 use Rattle.record_values.specs.declared.row.Row.{Row}
 use Rattle.record_values.specs.declared.pair.Pair.{Pair}
 use Rattle.record_values.specs.declared.pair.Mark.{Mark}
-use Rattle.model.specs.Table.{Index, Table}
+use Rattle.model.specs.Table.{Table}
+use Rattle.record_values.specs.Entries.{Index}
 
 -- the map with these entries set, one after another
 abbrev pub extended : {K X : Type 0} {R : K → K → Ordering} → FinMap R X → List (K × X) → FinMap R X

@@ -9,7 +9,8 @@ use Rattle.model.specs.Cells.{Cells, cells_after}
 use Rattle.model.specs.History.{Item, life_after, table_after, up_to}
 use Rattle.model.specs.Pairs.{is_indexed, new_pair, old_pair, with_entry}
 use Rattle.model.specs.Recovery.{recovered_rows}
-use Rattle.model.specs.Table.{Index, IsPairOf, Table}
+use Rattle.model.specs.Table.{IsPairOf, Table}
+use Rattle.record_values.specs.Entries.{Index}
 use Rattle.model.specs.declared.life.Life.{Life}
 use Rattle.model.specs.declared.life.Life.TheVariants.{Absent}
 

@@ -5,7 +5,7 @@ use Rattle.records.specs.ChangeValue.{ChangeValue}
 use Rattle.record_values.specs.declared.pair.Pair.{Pair}
 use Rattle.model.specs.declared.life.Life.{Life}
 use Rattle.model.specs.declared.life.Life.TheVariants.{Building}
-use Rattle.model.specs.Table.{Index}
+use Rattle.record_values.specs.Entries.{Index}
 use Rattle.model.specs.Cells.{Cells, list_of}
 use Rattle.model.specs.Following.{IsWithin}
 use Rattle.model.specs.Given.{Given}

@@ -1,5 +1,4 @@
 pub mod Table
-pub mod KeyActions
 pub mod Cells
 pub mod History
 pub mod Committed

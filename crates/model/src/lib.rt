@@ -13,7 +13,6 @@
 
 mod cell_maps;
 mod entry_map;
-mod key_action;
 mod laws;
 mod life;
 mod list_map;
@@ -23,7 +22,6 @@ mod write;
 
 pub use cell_maps::{CellMaps, Recovered};
 pub use entry_map::EntryMap;
-pub use key_action::KeyAction;
 pub use laws::{
     beginnings, commit_order, copied_image, following_records, inside_pages, listed_changes,
     one_more_item, set_is_there,
@@ -31,4 +29,5 @@ pub use laws::{
 pub use life::Life;
 pub use list_map::ListMap;
 pub use row_map::{ROWS_PER_PAGE, RowMap};
+pub use record_values::KeyAction;
 pub use write::Write;

@@ -2,7 +2,7 @@
 use Rattle.std.specs.Prelude.{◌≡◌, ℕ, ◌+◌, max, List, [], ◌∷◌, ◌++◌, length, refl, Bool, true, false, zero, suc}
 use Rattle.std.proofs.Common.{ap}
 use Rattle.std.specs.Coded.{Coded, code_by, coded×, coded_list}
-use Rattle.records.specs.Codes.{coded_pair, coded_mark}
+use Rattle.record_values.specs.Codes.{coded_pair, coded_mark}
 use base.Stored.{Gv, gnil, gnum, gcons}
 use Rattle.record_values.specs.declared.pair.Pair.{Pair}
 use Rattle.record_values.specs.declared.pair.Mark.{Mark}

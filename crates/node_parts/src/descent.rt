@@ -9,7 +9,7 @@ ghost use Rattle.node_parts.specs.Tree.{count, entries, IsLeaf};
 
 use crate::rows::FULL;
 use crate::{Entry, Node, NodeParts};
-use records::Pair;
+use record_values::Pair;
 use std::alloc::Allocator;
 use std::marker::Model;
 

@@ -21,7 +21,7 @@ pub mod descent;
 pub mod rows;
 pub mod search;
 
-use records::{Error, Mark, Pair};
+use record_values::{Error, Mark, Pair};
 use rows::FULL;
 use std::alloc::Allocator;
 use std::marker::Model;

@@ -6,7 +6,7 @@ ghost use Rattle.node_parts.specs.Seen.{AreLabelled};
 ghost use Rattle.node_parts.specs.Rows.{row_entries};
 
 use crate::{Child, Entry};
-use records::{Pair, compare_pairs};
+use record_values::{Pair, compare_pairs};
 use std::alloc::Allocator;
 
 /// Whether a pair comes before another.

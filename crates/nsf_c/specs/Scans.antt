@@ -9,7 +9,7 @@ use Rattle.record_values.specs.declared.key.TheConstants.{KEY_MAX}
 use Rattle.record_values.specs.declared.pair.Pair.{Pair}
 use Rattle.record_values.specs.declared.rid.TheConstants.{SLOTS_PER_PAGE}
 use Rattle.record_values.specs.Refusals.{number_of}
-use Rattle.model.specs.Table.{Index}
+use Rattle.record_values.specs.Entries.{Index}
 use Rattle.core_parts.specs.View.{CoreValue}
 use Rattle.core_scan.specs.Answered.{IsPageOf}
 use Rattle.core_scan.specs.Backward.{IsPageBackOf}

@@ -10,7 +10,7 @@ use Rattle.record_values.specs.declared.error.Error.{Error}
 use Rattle.record_values.specs.declared.error.Error.TheVariants.{IndexFull}
 use Rattle.record_values.specs.declared.pair.Mark.{Mark}
 use Rattle.record_values.specs.declared.pair.Pair.{Pair}
-use Rattle.model.specs.Table.{Index}
+use Rattle.record_values.specs.Entries.{Index}
 use Rattle.core_parts.specs.Index.{IndexValue, IsAbsent, IsFull}
 use Rattle.nsf_core.specs.Loading.{IsPairInside, IsQuiet}
 use Rattle.core_parts.specs.View.{CoreValue, IsSafe}

@@ -11,7 +11,7 @@ use Rattle.record_values.specs.Maps.{key_is, pair_exact, same_key}
 use Rattle.record_values.specs.Orders.{pair_cmp, pair_cmp_total}
 use Rattle.record_values.specs.declared.pair.Mark.{Mark}
 use Rattle.record_values.specs.declared.pair.Pair.{Pair}
-use Rattle.model.specs.Table.{Index}
+use Rattle.record_values.specs.Entries.{Index}
 use Rattle.btree_node.specs.Above.{IsAfter, IsLeastAbove}
 use Rattle.program_values.specs.Texts.{line_of}
 use Rattle.program_values.specs.declared.answer.Answer.TheVariants as answer

@@ -4,7 +4,7 @@ use Rattle.std.proofs.Math.Logic.{∥∥₁_elim}
 use Rattle.std.specs.Coded.{Coded, Coded-set, code_by, coded_bool, coded_option, coded⊎}
 use Rattle.std.specs.FinMap.{code}
 use Rattle.std.specs.declared.alloc.Global.{Global}
-use Rattle.records.specs.Codes.{coded_mark, coded_pair, coded_rid, coded_row}
+use Rattle.record_values.specs.Codes.{coded_mark, coded_pair, coded_rid, coded_row}
 use Rattle.record_values.specs.declared.error.Error.{Error}
 use Rattle.record_values.specs.declared.pair.Pair.{Pair}
 use Rattle.model.specs.declared.life.Life.{Life}

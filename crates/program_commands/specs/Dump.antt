@@ -5,7 +5,8 @@ use Rattle.std.specs.List.{flat_map}
 use Rattle.std.specs.Option.{option_map_or}
 use Rattle.record_values.specs.Values.{Place}
 use Rattle.record_values.specs.declared.rid.TheConstants.{SLOTS_PER_PAGE}
-use Rattle.model.specs.Table.{Table, Index}
+use Rattle.model.specs.Table.{Table}
+use Rattle.record_values.specs.Entries.{Index}
 use Rattle.program_commands.specs.Store.{rows_of, pages_of, entries_of, life_of}
 use Rattle.program_values.specs.Texts.{line_of}
 use Rattle.program_values.specs.declared.answer.Answer.TheVariants.{RowAt, Entry, Life}

@@ -12,7 +12,7 @@ use Rattle.record_values.specs.declared.error.Error.{Error}
 use Rattle.record_values.specs.declared.error.Error.TheVariants.{KeyTooLong}
 use Rattle.record_values.specs.declared.key.TheConstants.{KEY_MAX}
 use Rattle.record_values.specs.declared.pair.Pair.{Pair}
-use Rattle.model.specs.Table.{Index}
+use Rattle.record_values.specs.Entries.{Index}
 use Rattle.model.specs.declared.life.Life.{Life}
 use Rattle.core_scan.specs.Answered.{IsCountOf, IsPageOf}
 use Rattle.core_scan.specs.Backward.{IsPageBackOf}

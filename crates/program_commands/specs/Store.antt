@@ -3,7 +3,8 @@ use Rattle.std.specs.Prelude.{ℕ}
 use Rattle.std.specs.declared.alloc.Global.{Global}
 use Rattle.record_values.specs.declared.error.Error.{Error}
 use Rattle.sector_device.specs.DevicePast.{DevicePast}
-use Rattle.model.specs.Table.{Table, Index}
+use Rattle.model.specs.Table.{Table}
+use Rattle.record_values.specs.Entries.{Index}
 use Rattle.model.specs.declared.life.Life.{Life}
 use Rattle.restart.specs.Parts.{core_of}
 use Rattle.restart.specs.Parts as engine

@@ -7,7 +7,8 @@ use Rattle.std.proofs.lemmas.List.Concat.{flat_map-append}
 use Rattle.std.specs.Prelude.{filter}
 use Rattle.record_values.specs.Orders.{is_above}
 use Rattle.record_values.specs.declared.pair.Pair.{Pair}
-use Rattle.model.specs.Table.{Index, Table}
+use Rattle.model.specs.Table.{Table}
+use Rattle.record_values.specs.Entries.{Index}
 use Rattle.core_scan.specs.Visible.{last_or, left_of, next_after, visible}
 use Rattle.core_scan.specs.declared.range.KeyRange.{KeyRange}
 use Rattle.core_scan.proofs.Paged.{page_last, page_more}

@@ -5,3 +5,6 @@ pub mod Values
 pub mod Version
 pub mod Orders
 pub mod Maps
+pub mod Entries
+pub mod KeyActions
+pub mod Codes

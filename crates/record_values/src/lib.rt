@@ -11,6 +11,7 @@
 mod error;
 mod geometry;
 mod key;
+mod key_action;
 mod limits;
 mod number;
 mod pair;
@@ -27,6 +28,7 @@ pub use geometry::{
     LOG_SLOTS_MIN, PAGE_SECTORS, PAGES_MAX, SLOT_SECTORS, UNDO_SECTORS,
 };
 pub use key::{BODY_MAX, Body, KEY_MAX, Key};
+pub use key_action::KeyAction;
 pub use limits::{ATTEMPTS_PER_CHECKPOINT, PLACES_PER_CHANGE};
 pub use number::{LAST_NUMBER, RecordNumber};
 pub use pair::{Mark, Pair, compare_pairs};

@@ -5,7 +5,8 @@ use Rattle.std.proofs.lemmas.List.{nil_from_length}
 use Rattle.std.specs.FinMap.{get}
 use Rattle.record_values.specs.declared.pair.Mark.TheVariants.{Live}
 use Rattle.record_values.specs.declared.pair.Pair.{Pair}
-use Rattle.model.specs.Table.{IsPairOf, Table, Index}
+use Rattle.model.specs.Table.{IsPairOf, Table}
+use Rattle.record_values.specs.Entries.{Index}
 use Rattle.model.specs.declared.life.Life.TheVariants.{Complete}
 use Rattle.core_model.proofs.Laws.{made_holds, whole}
 use Rattle.core_model.specs.States.{State}

@@ -15,9 +15,9 @@ use Rattle.record_values.specs.declared.limits.TheConstants.{ATTEMPTS_PER_CHECKP
 use Rattle.record_values.specs.declared.pair.Mark.{Mark}
 use Rattle.record_values.specs.declared.pair.Mark.TheVariants.{Live, Marked}
 use Rattle.record_values.specs.declared.pair.Pair.{Pair}
-use Rattle.model.specs.KeyActions.{after_action}
-use Rattle.model.specs.Table.{Index}
-use Rattle.model.specs.declared.key_action.KeyAction.TheVariants.{BuildPut}
+use Rattle.record_values.specs.KeyActions.{after_action}
+use Rattle.record_values.specs.Entries.{Index}
+use Rattle.record_values.specs.declared.key_action.KeyAction.TheVariants.{BuildPut}
 
 less_is : (o : Ordering) → is_lt o ≡ true → o ≡ Less
 less_is Less e = refl

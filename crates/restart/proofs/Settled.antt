@@ -18,7 +18,8 @@ use Rattle.model.specs.Given.{Given, IsBeginning, opening_cells, recovered}
 use Rattle.model.specs.Inside.{IsGivenInside}
 use Rattle.model.specs.Redo.{cells_of}
 use Rattle.model.specs.declared.cell_maps.CellMaps.{CellMaps}
-use Rattle.model.specs.Table.{Index, Table}
+use Rattle.model.specs.Table.{Table}
+use Rattle.record_values.specs.Entries.{Index}
 use Rattle.model.proofs.GivenLaws.{given_again}
 use Rattle.core_model.specs.Events as core
 use Rattle.core_model.specs.Events.{Standing, standing_at}

@@ -3,7 +3,7 @@
 ghost use Rattle.std.specs.Prelude.{◌≡◌, ◌<◌, ◌%◌, All, IfOk, OnErr, length};
 ghost use Rattle.std.specs.List.Sorted.{IsPermutation};
 
-use records::Pair;
+use record_values::Pair;
 use std::alloc::{AllocError, Allocator};
 
 /// How many bytes a number has: the last two are those of a place.

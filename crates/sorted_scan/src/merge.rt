@@ -13,7 +13,7 @@ ghost use Rattle.sorted_scan.specs.Pairs.{least, AreSame};
 ghost use Rattle.sorted_scan.specs.Merges.{run_cmp, run_cmp_total, run_pairs, pairs_in, AreSortedRuns};
 
 use crate::abbreviated::arrange;
-use records::{Pair, compare_pairs};
+use record_values::{Pair, compare_pairs};
 use std::alloc::{AllocError, Allocator};
 use std::cmp::Ordering;
 use std::collections::BinaryHeap;

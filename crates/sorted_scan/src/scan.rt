@@ -10,7 +10,7 @@ ghost use Rattle.sorted_scan.specs.Runs.{ScanRun, Took, HandedOut, with_step, Ma
 ghost use Rattle.sorted_scan.specs.Scans.{begun, begun_run, page_from, next_of, HasRun};
 
 use crate::merge::Merge;
-use records::{Error, Pair, SLOTS_PER_PAGE, compare_pairs};
+use record_values::{Error, Pair, SLOTS_PER_PAGE, compare_pairs};
 use std::alloc::{AllocError, Allocator};
 use std::marker::Model;
 

@@ -21,7 +21,8 @@ use Rattle.record_values.specs.Maps.{set_at, rid_exact, get-set_at_same, get-set
 use Rattle.record_values.specs.declared.row.Row.{Row}
 use Rattle.record_values.specs.declared.pair.Pair.{Pair}
 use Rattle.record_values.specs.declared.pair.Mark.{Mark}
-use Rattle.model.specs.Table.{Table, Index}
+use Rattle.model.specs.Table.{Table}
+use Rattle.record_values.specs.Entries.{Index}
 use Rattle.model.specs.Cells.{Pending}
 use Rattle.store_image_parts.specs.declared.head.Head.{Head}
 use Rattle.store_image_half.specs.Image.{AreHeads, IsItemIn, HasEdges, IsRowIn, IsEntryIn, HoldsListIn, item_bytes_in, row_bytes_in, entry_bytes_in, head_of}

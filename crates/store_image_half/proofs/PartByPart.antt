@@ -16,7 +16,8 @@ use Rattle.record_values.specs.Orders.{rid_cmp, pair_cmp}
 use Rattle.record_values.specs.declared.row.Row.{Row}
 use Rattle.record_values.specs.declared.pair.Pair.{Pair}
 use Rattle.record_values.specs.declared.pair.Mark.{Mark}
-use Rattle.model.specs.Table.{Table, Index}
+use Rattle.model.specs.Table.{Table}
+use Rattle.record_values.specs.Entries.{Index}
 use Rattle.model.specs.Cells.{Cells}
 use Rattle.store_image_half.specs.Layout.{heads_at, undo_at, page_at, entries_at, page_bytes, row_of, InImage, InPage, InEntries}
 use Rattle.store_image_half.specs.Image.{IsHeader, AreHeads, HoldsList, IsItem, HasEdges, IsRow, IsEntry, IsImage, row_bytes, entry_bytes, header_of, head_of}

@@ -6,7 +6,8 @@ use Rattle.sector_device.specs.DevicePast.{Rises}
 use Rattle.record_values.specs.declared.version.Version.{Version}
 use Rattle.record_values.specs.GeometryValue.{GeometryValue}
 use Rattle.record_values.specs.declared.error.Error.{Error}
-use Rattle.model.specs.Table.{Table, Index}
+use Rattle.model.specs.Table.{Table}
+use Rattle.record_values.specs.Entries.{Index}
 use Rattle.model.specs.Cells.{Cells, Pending}
 use Rattle.store_image_parts.specs.declared.head.Head.{Head}
 use Rattle.store_image_parts.specs.declared.header.Header.{Header}

@@ -14,7 +14,8 @@ use Rattle.record_values.specs.declared.pair.Pair.{Pair}
 use Rattle.record_values.specs.declared.pair.Mark.{Mark}
 use Rattle.record_values.specs.declared.error.Error.{Error}
 use Rattle.record_values.specs.declared.error.Error.TheVariants.{Damaged}
-use Rattle.model.specs.Table.{Table, Index}
+use Rattle.model.specs.Table.{Table}
+use Rattle.record_values.specs.Entries.{Index}
 use Rattle.model.specs.Cells.{Pending}
 use Rattle.store_image_parts.specs.declared.head.Head.{Head}
 use Rattle.store_image_parts.specs.declared.head.TheConstants.{HEAD_SIZE}

@@ -14,7 +14,8 @@ use Rattle.record_values.specs.Orders.{pair_cmp}
 use Rattle.records.specs.RecordValue.{RecordValue}
 use Rattle.record_values.specs.declared.pair.Pair.{Pair}
 use Rattle.record_values.specs.declared.pair.Mark.{Mark}
-use Rattle.model.specs.Table.{Table, Index}
+use Rattle.model.specs.Table.{Table}
+use Rattle.record_values.specs.Entries.{Index}
 use Rattle.model.specs.Cells.{Cells}
 use Rattle.store_image_model.specs.Partly.{IsUpTo, joined, IsPartlyCopied, AreNextEntries, AreLastEntries}
 use Rattle.store_image_model.proofs.Steps.{or_else, get-joined, up_to_or_not}

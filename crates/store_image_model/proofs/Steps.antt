@@ -14,7 +14,8 @@ use Rattle.records.specs.RecordValue.{RecordValue}
 use Rattle.record_values.specs.declared.row.Row.{Row}
 use Rattle.record_values.specs.declared.pair.Pair.{Pair}
 use Rattle.record_values.specs.declared.pair.Mark.{Mark}
-use Rattle.model.specs.Table.{Table, Index}
+use Rattle.model.specs.Table.{Table}
+use Rattle.record_values.specs.Entries.{Index}
 use Rattle.model.specs.Cells.{Cells, cells_after}
 use Rattle.model.specs.Following.{IsWithin}
 use Rattle.model.specs.Images.{IsCopied}

@@ -10,7 +10,8 @@ use Rattle.records.specs.RecordValue.{RecordValue}
 use Rattle.record_values.specs.declared.row.Row.{Row}
 use Rattle.record_values.specs.declared.pair.Pair.{Pair}
 use Rattle.record_values.specs.declared.pair.Mark.{Mark}
-use Rattle.model.specs.Table.{Table, Index}
+use Rattle.model.specs.Table.{Table}
+use Rattle.record_values.specs.Entries.{Index}
 use Rattle.model.specs.Cells.{Cells, cells_after}
 
 -- since these cells stood, the row of this place was this one after some records of the log, at most the first m

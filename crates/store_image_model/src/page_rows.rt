@@ -23,7 +23,7 @@ impl<A: Allocator> Model for PageRows<A> {
     ghost use Rattle.std.specs.Prelude.{◌≡◌, ◌⊎◌, length};
     ghost use Rattle.std.specs.FinMap as map;
     ghost use Rattle.record_values.specs.Orders.{rid_cmp};
-    ghost use Rattle.records.specs.Codes.{coded_rid, coded_row};
+    ghost use Rattle.record_values.specs.Codes.{coded_rid, coded_row};
     ghost use Rattle.record_values.specs.declared.rid.TheConstants.{SLOTS_PER_PAGE};
     ghost use Rattle.record_values.specs.declared.row.Row.{Row};
     ghost use Rattle.store_image_model.specs.Slots.{rows_from};

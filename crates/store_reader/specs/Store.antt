@@ -3,7 +3,8 @@ use Rattle.std.specs.Prelude.{◌≡◌, ℕ, ◌+◌, Bool, true, false, List, 
 use Rattle.std.proofs.Common.{inl, inr}
 use Rattle.std.specs.Coded.{Coded, code_by, coded×, coded⊎, coded_ℕ, coded_bool, coded_list, coded_option}
 use Rattle.std.specs.FinMap as map
-use Rattle.records.specs.Codes.{coded_change, coded_mark, coded_pair, coded_rid, coded_row}
+use Rattle.records.specs.Codes.{coded_change}
+use Rattle.record_values.specs.Codes.{coded_mark, coded_pair, coded_rid, coded_row}
 use Rattle.record_values.specs.GeometryValue.{GeometryValue}
 use Rattle.records.specs.RecordValue.{RecordValue}
 use Rattle.record_values.specs.declared.pair.Pair.{Pair}
@@ -11,7 +12,8 @@ use Rattle.model.specs.declared.life.Life.{Life}
 use Rattle.model.specs.declared.life.Life.TheVariants.{Absent, Building, Complete}
 use Rattle.model.specs.Cells.{Cells, Pending, cells_after, set_by}
 use Rattle.model.specs.Following.{CanFollow}
-use Rattle.model.specs.Table.{Index, Table}
+use Rattle.model.specs.Table.{Table}
+use Rattle.record_values.specs.Entries.{Index}
 
 -- the cells of a store of this geometry, which records up to the number `last` have left
 pub record StoreValue : Type 0 where

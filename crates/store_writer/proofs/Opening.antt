@@ -18,7 +18,8 @@ use Rattle.flip_image.specs.declared.half.Half.{Half}
 use Rattle.flip_image.specs.Layout.{other, header_sector}
 use Rattle.record_values.specs.declared.pair.Pair.{Pair}
 use Rattle.model.specs.Inside.{AreInside}
-use Rattle.model.specs.Table.{Table, Index}
+use Rattle.model.specs.Table.{Table}
+use Rattle.record_values.specs.Entries.{Index}
 use Rattle.store_image_half.specs.Part.{IsImagePart}
 use Rattle.store_image_model.specs.Partly.{IsPartlyCopied}
 use Rattle.store_writer.specs.declared.image.Stage.{Stage}

@@ -7,7 +7,8 @@ use Rattle.record_values.specs.declared.pair.Pair.{Pair}
 use Rattle.record_values.specs.declared.geometry.TheConstants.{ENTRIES_PER_SECTOR}
 use Rattle.model.specs.Cells.{Cells}
 use Rattle.model.specs.Inside.{AreInside}
-use Rattle.model.specs.Table.{Table, Index}
+use Rattle.model.specs.Table.{Table}
+use Rattle.record_values.specs.Entries.{Index}
 use Rattle.model.specs.declared.life.Life.{Life}
 use Rattle.gate_log.specs.Area.{InArea, InSlot, Stands, records_of}
 use Rattle.gate_log.specs.Group.{IsGroup}

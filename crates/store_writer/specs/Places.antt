@@ -7,7 +7,8 @@ use Rattle.record_values.specs.declared.row.Row.{Row}
 use Rattle.record_values.specs.declared.pair.Pair.{Pair}
 use Rattle.record_values.specs.declared.pair.Mark.{Mark}
 use Rattle.model.specs.declared.life.Life.{Life}
-use Rattle.model.specs.Table.{Table, Index}
+use Rattle.model.specs.Table.{Table}
+use Rattle.record_values.specs.Entries.{Index}
 use Rattle.store_image_model.specs.Run.{Run, end_of, cells_at}
 use Rattle.store_image_model.specs.Partly.{ArePageRows, AreNextEntries, AreLastEntries}
 use Rattle.store_image_model.specs.declared.chunk.TheConstants.{CHUNK_ENTRIES}

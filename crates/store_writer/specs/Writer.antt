@@ -12,7 +12,8 @@ use Rattle.record_values.specs.declared.error.Error.{Error}
 use Rattle.record_values.specs.declared.error.Error.TheVariants.{NoMemory, DeviceFailed}
 use Rattle.model.specs.Cells.{Cells, Pending, list_of}
 use Rattle.model.specs.Inside.{AreInside}
-use Rattle.model.specs.Table.{Table, Index}
+use Rattle.model.specs.Table.{Table}
+use Rattle.record_values.specs.Entries.{Index}
 use Rattle.model.specs.declared.life.Life.{Life}
 use Rattle.record_values.specs.Values.{Place}
 use Rattle.record_values.specs.declared.rid.TheConstants.{SLOTS_PER_PAGE}

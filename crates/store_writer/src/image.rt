@@ -11,7 +11,7 @@ ghost use Rattle.record_values.specs.declared.pair.Pair.{Pair as PairValue};
 ghost use Rattle.record_values.specs.declared.pair.Mark.{Mark as MarkValue};
 ghost use Rattle.record_values.specs.declared.geometry.TheConstants.{ENTRIES_PER_SECTOR};
 ghost use Rattle.model.specs.Cells.{Cells};
-ghost use Rattle.model.specs.Table.{Index};
+ghost use Rattle.record_values.specs.Entries.{Index};
 ghost use Rattle.model.specs.declared.life.Life.TheVariants.{Building};
 ghost use Rattle.model.specs.declared.life.Life.{Life as LifeValue};
 ghost use Rattle.model.specs.Redo.{cells_of};

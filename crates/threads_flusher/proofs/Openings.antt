@@ -6,7 +6,7 @@ use Rattle.std.proofs.lemmas.List.{take-take}
 use Rattle.std.specs.Coded.{Coded-set, coded_list, coded_option, coded_ℕ, le_prop}
 use Rattle.std.specs.FinMap.{get}
 use mathlib.Core.HLevel.{⊥_prop}
-use Rattle.records.specs.Codes.{coded_mark}
+use Rattle.record_values.specs.Codes.{coded_mark}
 use Rattle.records.specs.RecordValue.{RecordValue}
 use Rattle.record_values.specs.declared.pair.Mark.{Mark}
 use Rattle.record_values.specs.declared.pair.Pair.{Pair}

@@ -5,7 +5,7 @@ use Rattle.record_values.specs.Maps.{pair_exact}
 use Rattle.record_values.specs.Orders.{pair_cmp}
 use Rattle.record_values.specs.declared.pair.Pair.{Pair}
 use Rattle.record_values.specs.declared.pair.Mark.{Mark}
-use Rattle.model.specs.Table.{Index}
+use Rattle.record_values.specs.Entries.{Index}
 use Rattle.nsf_core.specs.Value.{value_of}
 use Rattle.core_copies.proofs.InOrder.{all_in_order, next_left, next_sorted, next_there, none_in_order}
 use Rattle.core_copies.proofs.Loading.{AreEntriesLoaded, all_entries, entry_within, no_entry, not_full, one_entry, still_quiet}

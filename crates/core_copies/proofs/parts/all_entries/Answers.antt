@@ -4,7 +4,7 @@ use Rattle.record_values.specs.Orders.{pair_cmp}
 use Rattle.record_values.specs.declared.pair.Mark.{Mark}
 use Rattle.record_values.specs.declared.pair.Pair.{Pair}
 use Rattle.model.specs.Extended.{extended, index_of}
-use Rattle.model.specs.Table.{Index}
+use Rattle.record_values.specs.Entries.{Index}
 use Rattle.model.proofs.ExtendedLaws.{extended_more}
 use Rattle.btree_node.specs.Runs.{IsRunAbove}
 use Rattle.nsf_core.specs.Value.{value_of}

@@ -8,7 +8,7 @@ use Rattle.record_values.specs.Orders.{pair_cmp}
 use Rattle.record_values.specs.declared.pair.Pair.{Pair}
 use Rattle.record_values.specs.declared.pair.Mark.{Mark}
 use Rattle.record_values.specs.declared.error.Error.TheVariants.{Damaged}
-use Rattle.model.specs.Table.{Index}
+use Rattle.record_values.specs.Entries.{Index}
 use Rattle.model.specs.Cells.{Cells}
 use Rattle.model.specs.Extended.{extended, index_of}
 use Rattle.model.proofs.ExtendedLaws.{extended_more}

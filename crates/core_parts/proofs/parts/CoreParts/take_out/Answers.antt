@@ -1,6 +1,6 @@
 use Rattle.std.proofs.Common.{Some, ap, inl, inr, refl, true, ◌∙◌}
 use Rattle.std.proofs.lemmas.Result.{err_from_is_err_and}
-use Rattle.model.specs.declared.key_action.KeyAction.TheVariants.{Clean}
+use Rattle.record_values.specs.declared.key_action.KeyAction.TheVariants.{Clean}
 use Rattle.marked_index.specs.Index.{IndexValue, entries_after}
 use Rattle.core_parts.specs.Parts.{parts_of}
 use Rattle.core_parts.specs.View.{CoreValue}

@@ -3,8 +3,8 @@ use Rattle.std.proofs.lemmas.Result.{err_from_is_err_and}
 use Rattle.std.specs.FinMap as map
 use Rattle.record_values.specs.declared.geometry.TheConstants.{LARGE_ENTRIES_MAX}
 use Rattle.record_values.specs.declared.pair.Mark.TheVariants.{Live}
-use Rattle.model.specs.declared.key_action.KeyAction.TheVariants.{BuildPut}
-use Rattle.model.specs.Table.{Index}
+use Rattle.record_values.specs.declared.key_action.KeyAction.TheVariants.{BuildPut}
+use Rattle.record_values.specs.Entries.{Index}
 use Rattle.btree_node.specs.Contents.{contents}
 use Rattle.marked_index.specs.Index.{entries_after}
 use Rattle.marked_index.proofs.Actions.{added_is, build_new, build_there, found_is, found_not_added, no_room_is, no_room_not_added, none_added}

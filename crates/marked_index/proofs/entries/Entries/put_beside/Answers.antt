@@ -2,7 +2,7 @@ use Rattle.std.proofs.Common.{◌≡◌, ◌<◌, None, ap, sym, subst, refl, �
 use Rattle.std.specs.FinMap as map
 use Rattle.record_values.specs.declared.geometry.TheConstants.{LARGE_ENTRIES_MAX}
 use Rattle.record_values.specs.declared.pair.Mark.TheVariants.{Live}
-use Rattle.model.specs.Table.{Index}
+use Rattle.record_values.specs.Entries.{Index}
 use Rattle.btree_node.specs.Contents.{contents}
 use Rattle.marked_index.proofs.Actions.{added_is}
 use Rattle.marked_index.proofs.Counted.{counted_insert}

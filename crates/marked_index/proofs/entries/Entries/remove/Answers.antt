@@ -1,6 +1,6 @@
 use Rattle.std.proofs.Common.{◌≡◌, Some, ap, ◌∙◌}
 use Rattle.std.specs.FinMap as map
-use Rattle.model.specs.Table.{Index}
+use Rattle.record_values.specs.Entries.{Index}
 use Rattle.btree_node.specs.Contents.{contents}
 use Rattle.marked_index.proofs.Counted.{among_all, counted_remove, few_marked}
 use Rattle.marked_index.proofs.entries.Entries.remove.Goals as goal

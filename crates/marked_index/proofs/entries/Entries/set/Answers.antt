@@ -4,7 +4,7 @@ use Rattle.std.specs.FinMap as map
 use Rattle.record_values.specs.declared.geometry.TheConstants.{LARGE_ENTRIES_MAX}
 use Rattle.record_values.specs.declared.pair.Mark.{Mark}
 use Rattle.node_parts.specs.Tree.{Tree}
-use Rattle.model.specs.Table.{Index}
+use Rattle.record_values.specs.Entries.{Index}
 use Rattle.btree_node.specs.Contents.{contents}
 use Rattle.marked_index.proofs.Actions.{added_is, found_is, found_not_added, no_room_is, no_room_not_added, none_added}
 use Rattle.marked_index.proofs.Counted.{among_all, counted_insert, few_marked}

@@ -1,7 +1,7 @@
 use Rattle.std.proofs.Common.{sym, ap, ◌∙◌, arith}
 use Rattle.std.proofs.lemmas.List.{drop_all}
 use Rattle.std.proofs.lemmas.Result.{err_from_is_err_and}
-use Rattle.model.specs.Table.{Index}
+use Rattle.record_values.specs.Entries.{Index}
 use Rattle.model.specs.Given.{entries_reverted}
 use Rattle.model.proofs.MapLaws.{entries_one_more}
 use Rattle.model.proofs.entry_map.EntryMap.revert.Goals as goal
