@@ -1,7 +1,6 @@
 -- Runs that are cut off what was gathered.
-use Rattle.std.proofs.Common.{◌≡◌, ◌<◌, ◌≤◌, ◌+◌, ◌⊎◌, List, [], ◌++◌, length, arith, length-append, ap}
+use Rattle.std.proofs.Common.{◌≡◌, ◌<◌, ◌≤◌, ◌+◌, ◌⊎◌, List, ◌++◌, length, arith, length-append}
 use Rattle.std.proofs.Common.{Result, Ok, Err, OnOk}
-use Rattle.std.specs.List.{count_by}
 use Rattle.record_values.specs.declared.pair.Pair.{Pair}
 use Rattle.sorted_scan.specs.FullRuns.{AreFull, AreFullButOne, MergeValue, full_run, runs_of}
 use Rattle.sorted_scan.specs.Pairs.{AreSame}
@@ -20,45 +19,6 @@ module _ (run others : List Pair) (old new : MergeValue) (full : AreFull old) (a
   -- a run that may not be full, or a full one and another
   pub one_short : length run ≤ full_run → (length others ≡ 0) ⊎ (length run ≡ full_run) → length others < full_run → AreFullButOne new
   one_short short which few = let long = longer in omega arith
-
--- all pairs are gathered
-pub gathered_all : (pairs gathered merged new : List Pair) → new ≡ gathered ++ pairs → AreSame (pairs ++ (gathered ++ merged)) (new ++ merged)
-gathered_all pairs gathered merged new is test =
-    omega (
-      arith,
-      ap (count_by test) is,
-      count_append test pairs (gathered ++ merged),
-      count_append test gathered merged,
-      count_append test gathered pairs,
-      count_append test new merged,
-    )
-
-module _ (pairs last behind gathered others next left : List Pair) (old new : MergeValue) (parts : pairs ≡ last ++ behind)
-    (split : AreSame behind (others ++ next)) where
-  -- the last pairs of a run go to the merge with what was gathered, and of those behind them others too
-  pub moved : AreSame (((gathered ++ last) ++ others) ++ old.pairs) new.pairs → left ≡ next → AreSame (pairs ++ (gathered ++ old.pairs)) (left ++ new.pairs)
-  moved same is test =
-      omega (
-        arith,
-        ap (count_by test) parts,
-        same test,
-        ap (count_by test) is,
-        split test,
-        count_append test pairs (gathered ++ old.pairs),
-        count_append test gathered old.pairs,
-        count_append test last behind,
-        count_append test ((gathered ++ last) ++ others) old.pairs,
-        count_append test (gathered ++ last) others,
-        count_append test gathered last,
-        count_append test others next,
-        count_append test left new.pairs,
-      )
-
-pub all_others : (behind next : List Pair) → next ≡ [] → AreSame behind (behind ++ next)
-all_others behind next none test = omega (arith, ap (count_by test) none, count_append test behind next)
-
-pub all_next : (behind others : List Pair) → others ≡ [] → AreSame behind (others ++ behind)
-all_next behind others none test = omega (arith, ap (count_by test) none, count_append test others behind)
 
 -- what follows from two facts of an answer
 pub on_both : {A E : Type 0} (r : Result A E) (P Q S : Type 0) → (P → Q → S) → OnOk r P → OnOk r Q → OnOk r S
