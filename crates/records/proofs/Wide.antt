@@ -1,5 +1,5 @@
 -- What is within the limits of a version is within those of the latest.
-use Rattle.std.proofs.Common.{◌≡◌, ◌≤◌, ℕ, List, ◌++◌, take, drop, sym, ap, subst, ◌∙◌, arith, take-append-drop}
+use Rattle.std.proofs.Common.{◌≡◌, ◌≤◌, ℕ, List, ◌++◌, take, drop, sym, ap, ◌∙◌, arith, take-append-drop}
 use Rattle.record_values.specs.declared.key.TheConstants.{KEY_MAX, BODY_MAX}
 use Rattle.record_values.specs.declared.version.Version.{Version}
 use Rattle.record_values.specs.declared.version.Version.TheVariants.{One, Two}

@@ -1,5 +1,4 @@
 use Rattle.std.proofs.Common.{◌≡◌, true, sym, subst, ◌∙◌}
-use Rattle.records.specs.RecordValue.{RecordValue}
 use Rattle.records.specs.Spelling.{FitsIn}
 use Rattle.records.proofs.Wide.{same_record}
 use Rattle.records.proofs.record.Record.decode_in.Goals as goal
