@@ -28,6 +28,6 @@ pub use laws::{
 };
 pub use life::Life;
 pub use list_map::ListMap;
-pub use row_map::{ROWS_PER_PAGE, RowMap};
 pub use record_values::KeyAction;
+pub use row_map::{ROWS_PER_PAGE, RowMap};
 pub use write::Write;
