@@ -1,0 +1,5 @@
+mod Orders
+mod Keeps
+mod Logs
+mod Copies
+mod Example

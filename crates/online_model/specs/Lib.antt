@@ -1,0 +1,4 @@
+pub mod World
+pub mod Keeping
+pub mod Logs
+pub mod Example
