@@ -1,0 +1,6 @@
+mod PieceLemmas
+mod Redoing
+mod Running
+mod SetEntries
+mod Slots
+mod StandingLemmas

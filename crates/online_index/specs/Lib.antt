@@ -1,0 +1,5 @@
+pub mod Pages
+pub mod Value
+pub mod Standing
+pub mod Builds
+pub mod Pieces

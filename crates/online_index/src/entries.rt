@@ -1,0 +1,73 @@
+//! Where the entries of an index are.
+ghost use Rattle.std.specs.Prelude.{◌≡◌, ◌⊎◌, ◌↔◌, None, IfErr, IsSome, IsTrue, OnErr, OnOk};
+ghost use Rattle.std.specs.FinMap as map;
+ghost use Rattle.std.specs.Option.{option_copied};
+ghost use Rattle.record_values.specs.Maps.{set_at};
+ghost use Rattle.btree_node.specs.Above.{IsLeastAbove};
+ghost use Rattle.marked_index.specs.Counts.{marked_in};
+
+use marked_index::MarkedIndex;
+use record_values::{Error, Mark, Pair};
+use std::alloc::Allocator;
+
+/// The entries of an index, wherever they are kept.
+pub trait Entries {
+    ghost use Rattle.record_values.specs.Entries.{Index};
+
+    ghost entries: { Self → Index };
+
+    /// The mark of a pair, if it has an entry.
+    fn get(&self, pair: &Pair) -> Option<Mark>
+        ensures { result ≡ map.get (entries self.now) pair.now };
+
+    /// Sets the entry of a pair, or takes it out. It is refused only where an entry is to be added.
+    fn set(&mut self, pair: &Pair, mark: Option<Mark>) -> Result<(), Error>
+        ensures ok { OnOk result (entries self.new ≡ set_at (entries self.old) pair.now mark) }
+        ensures refused { IfErr result (λ e. IsSome mark × (map.get (entries self.old) pair.now ≡ None)
+            × ((e ≡ Error.IndexFull) ⊎ (e ≡ Error.NoMemory))) }
+        ensures unchanged { OnErr result (entries self.new ≡ entries self.old) };
+
+    /// The least entry whose pair comes after the given one, or the least of all.
+    fn above(&self, pair: Option<&Pair>) -> Option<(Pair, Mark)>
+        ensures { IsLeastAbove (entries self.now) (option_copied pair.entry) result };
+
+    /// Whether there is none.
+    fn is_empty(&self) -> bool
+        ensures { IsTrue result ↔ (entries self.now ≡ map.empty) };
+
+    /// How many there are.
+    fn len(&self) -> usize
+        ensures { result ≡ map.len (entries self.now) };
+
+    /// How many are marked.
+    fn marked(&self) -> usize
+        ensures { result ≡ marked_in (entries self.now) };
+}
+
+impl<A: Allocator + Clone> Entries for MarkedIndex<A> {
+    ghost entries = { λ index. index.entries };
+
+    fn get(&self, pair: &Pair) -> Option<Mark> {
+        self.get(pair)
+    }
+
+    fn set(&mut self, pair: &Pair, mark: Option<Mark>) -> Result<(), Error> {
+        self.load(pair, mark)
+    }
+
+    fn above(&self, pair: Option<&Pair>) -> Option<(Pair, Mark)> {
+        self.above(pair)
+    }
+
+    fn is_empty(&self) -> bool {
+        self.is_empty()
+    }
+
+    fn len(&self) -> usize {
+        self.len()
+    }
+
+    fn marked(&self) -> usize {
+        self.marked()
+    }
+}

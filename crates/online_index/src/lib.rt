@@ -1,0 +1,25 @@
+//! An index of a table that another program keeps: the host. The host keeps its rows, its locks, its transactions and
+//! its log as it likes; the index is built while the host goes on changing rows.
+//!
+//! What the index keeps in memory depends on the two type parameters. `Entries` says where the entries are, and `Walk`
+//! where the pairs wait that were read for the builder. With `MarkedIndex` and `PageScan` both are in memory, 64 bytes
+//! an entry and 64 bytes a pair that waits.
+//!
+//! Proved, of every call, for every world of `online_model` that the index stands for (`StandsFor`): the call makes one
+//! step of that machine, which is enabled where the index alone decides it, or nothing changes. So what `online_model`
+//! says of every order of steps, it says of this index (`every_index`).
+#![tactic(auto)]
+
+mod build;
+mod entries;
+mod index;
+mod laws;
+mod pieces;
+mod walk;
+
+pub use build::{BuildStep, Stop};
+pub use entries::Entries;
+pub use index::{Counts, OnlineIndex};
+pub use laws::{every_index, every_redo};
+pub use pieces::{NextMarked, Saved};
+pub use walk::{PageScan, Walk, is_page};
