@@ -1,7 +1,7 @@
 #!/usr/bin/env python3
 """Looks whether nsf.h declares what the library has. Usage: tools/check_header.py, anywhere in the repository.
 
-The header's numbers of events and replies are those of kind.rt, and its refusals those of `number_of`, each with a text; its
+The header's numbers of events and replies are those of kind.rt, and its refusals below 100 those of `number_of`, each with a text; its
 limits are the constants of the sources; its structs have the fields of the library's, and its functions the parameters of the
 exports, in order and by type. It ends with status 1 where something differs.
 """
@@ -14,6 +14,7 @@ STRUCTS = {"nsf_event": ("asked", "Asked"), "nsf_place": ("spot", "Spot"), "nsf_
            "nsf_status": ("told", "Stat"), "nsf_handle": ("handle", "Handle"), "nsf_bounds": ("bounds", "Bounds")}
 # The names of parameters that are others in the header.
 NAMES = {"asked": "event", "told": "reply", "stat": "status", "spots": "places", "room": "sectors"}
+FIRST_INLINE = 100  # the least number of a refusal that inline functions alone answer
 LIMITS = {"NSF_KEY_MAX": "record_values/src/key.rt", "NSF_BODY_MAX": "record_values/src/key.rt", "NSF_SLOTS_PER_PAGE": "record_values/src/rid.rt"}
 
 
@@ -41,7 +42,12 @@ def number_faults(header):
     refusals = numbers(header, "NSF_OK")
     spec = re.findall(r"^number_of \(?(\w+)[^=]*= (\d+)", text("record_values/specs/Refusals.antt"), flags=re.M)
     wanted = {snake(name): int(number) for name, number in spec if name != "BadScript"}
-    wanted.update({"OK": 0, "NO_SUCH_EVENT": int(kinds[at][1]), "UNREADY": refusals.get("UNREADY")})
+    wanted.update({"OK": 0, "NO_SUCH_EVENT": int(kinds[at][1])})
+    # those of the inline functions alone
+    inline = {name: number for name, number in refusals.items() if number >= FIRST_INLINE}
+    if len(set(inline.values())) != len(inline) or max(wanted.values()) >= FIRST_INLINE:
+        yield f"numbers of inline functions are no others: {inline}"
+    wanted |= inline
     if refusals != wanted:
         yield f"refusals differ: {set(refusals.items()) ^ set(wanted.items())}"
     texts = set(re.findall(r"case NSF_(\w+): return", header))

@@ -69,7 +69,12 @@ enum {
     NSF_EXHAUSTED = 21,
     NSF_OLD_VERSION = 23,
     NSF_NO_SUCH_EVENT = 24,
-    NSF_UNREADY = 101 /* of the inline functions alone: the reply was NSF_SKIPPED */
+    /* of inline functions alone */
+    NSF_SYSTEM = 100,  /* errno says why; EINVAL where the length of a file is no number of sectors from 1 to 2^23 */
+    NSF_UNREADY = 101, /* the reply was NSF_SKIPPED */
+    NSF_UNSAFE = 102,  /* what was asked for is done, but a flush was refused (nsf_shared.h) */
+    NSF_UNSOUND = 103, /* of an opening: nsf_can_open says no */
+    NSF_BEGUN = 104    /* of a seat's change: its first step is made, and one behind it was refused (nsf_shared.h) */
 };
 
 /* The text of a refusal. */
@@ -100,7 +105,11 @@ static inline const char *nsf_message(uint32_t refusal)
     case NSF_EXHAUSTED: return "the last number that a record may have is given away";
     case NSF_OLD_VERSION: return "the store is of an older version of the format: `nsf-store migrate` moves it to a new file";
     case NSF_NO_SUCH_EVENT: return "no event has this kind";
+    case NSF_SYSTEM: return "the system refused a call: errno says why";
     case NSF_UNREADY: return "the transaction owes a step, has changes left, or is rolling back: nothing was done";
+    case NSF_UNSAFE: return "it is done, and not safe yet, as a flush was refused";
+    case NSF_UNSOUND: return "the index of the store isn't that of its rows: restore a copy, or `nsf-store salvage`";
+    case NSF_BEGUN: return "the change is begun, and a further step of it was refused: finish it, or roll it back";
     default: return "no refusal has this number";
     }
 }
@@ -246,7 +255,7 @@ uint32_t nsf_open(nsf_handle *handle, int32_t line, const uint8_t *bytes, size_t
  * saved by nsf_flush and nsf_save, and opened again by nsf_open. */
 uint64_t nsf_save(nsf_handle *handle, uint64_t first, uint8_t (*sectors)[NSF_SECTOR], size_t room);
 
-/* Closes the store. What was not flushed is lost. */
+/* Closes the store. What was not flushed is lost. (nsf_close_if_open takes a vacant handle too.) */
 void nsf_close(nsf_handle *handle);
 
 /* Serves an event. Where it answers a number, the reply's kind is NSF_REFUSED and nothing was done, but as said at the refusals. */
@@ -283,6 +292,13 @@ bool nsf_can_open(nsf_handle *handle);
 void nsf_stat(nsf_handle *handle, nsf_status *status);
 
 /* ---- the calls with less to write. These functions are not proved. */
+
+/* Closes the store, where one is open under the handle. */
+static inline void nsf_close_if_open(nsf_handle *handle)
+{
+    if (handle->at)
+        nsf_close(handle);
+}
 
 /* Saves the store into these bytes, as many whole sectors as they hold. Answers how many bytes were set. */
 static inline size_t nsf_save_bytes(nsf_handle *handle, uint8_t *bytes, size_t length)

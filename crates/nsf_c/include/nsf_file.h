@@ -24,8 +24,9 @@
 #include <sys/stat.h>
 #include <unistd.h>
 
-/* The system refused a call: errno says why. EINVAL where the length of the file is no number of sectors from 1 to 2^23. */
-enum { NSF_SYSTEM = 100 };
+#if !defined(_POSIX_C_SOURCE) || _POSIX_C_SOURCE < 200809L
+#error "define _POSIX_C_SOURCE as 200809L before the first header: nsf_file.h needs POSIX of 2008"
+#endif
 
 typedef struct nsf_file {
     nsf_handle handle;
@@ -154,20 +155,99 @@ static inline bool nsf_sync_folder(const char *path)
     return done;
 }
 
-/* Opens the file and locks it, with as many sectors of zeros as are asked for, all of them safe. */
-static inline bool nsf_file_clear(nsf_file *f, const char *path, uint64_t sectors)
+/* The name of the draft of a file, to be freed; NULL where memory is refused. */
+static inline char *nsf_draft_of(const char *path)
+{
+    const size_t length = strlen(path) + sizeof ".new";
+    char *draft = (char *)malloc(length);
+    if (draft)
+        snprintf(draft, length, "%s.new", path);
+    return draft;
+}
+
+/* Whether the file that is open has this name. */
+static inline bool nsf_has_name(int file, const char *path)
+{
+    struct stat found, named;
+    return fstat(file, &found) == 0 && lstat(path, &named) == 0 && found.st_dev == named.st_dev && found.st_ino == named.st_ino;
+}
+
+/* Locks the draft, where it has its name still: whoever has that lock makes the file, or removes it. Else it is another's (EWOULDBLOCK). */
+static inline bool nsf_own_draft(int file, const char *draft)
+{
+    if (flock(file, LOCK_EX | LOCK_NB) != 0)
+        return false;
+    errno = EWOULDBLOCK;
+    return nsf_has_name(file, draft);
+}
+
+/* Whether the file begins as a draft does: with a store, plain or of blocks, or with zeros, as far as it has a first sector. */
+static inline bool nsf_is_draft(int file)
+{
+    uint8_t first[NSF_SECTOR] = {0};
+    size_t zeros = 0;
+    if (pread(file, first, NSF_SECTOR, 0) < 0)
+        return false;
+    while (zeros < NSF_SECTOR && first[zeros] == 0)
+        zeros++;
+    return zeros == NSF_SECTOR || memcmp(first, "NSFINDEX", 8) == 0 || memcmp(first, "NSFBLOCK", 8) == 0;
+}
+
+/* Removes the draft of a creation that was cut off. It is refused by EWOULDBLOCK where another process makes the file now, and by EEXIST
+ * where something else has the name. */
+static inline bool nsf_remove_left(const char *draft)
+{
+    struct stat found;
+    bool done = false;
+    if (lstat(draft, &found) == 0 && !S_ISREG(found.st_mode)) {
+        errno = EEXIST;
+        return false;
+    }
+    int file = open(draft, O_RDONLY | O_CLOEXEC | O_NOFOLLOW | O_NONBLOCK);
+    if (file < 0) {
+        errno = errno == ENOENT ? EWOULDBLOCK : errno;
+        return false;
+    }
+    if (nsf_own_draft(file, draft)) {
+        errno = EEXIST;
+        done = nsf_is_draft(file) && unlink(draft) == 0;
+    }
+    int why = errno;
+    flock(file, LOCK_UN);
+    close(file);
+    errno = why;
+    return done;
+}
+
+/* A new file of this name, in place of a draft that was left; -1 where it is refused. */
+static inline int nsf_new_draft(const char *draft)
+{
+    const int flags = O_RDWR | O_CREAT | O_EXCL | O_CLOEXEC;
+    int file = open(draft, flags, 0666);
+    if (file < 0 && errno == EEXIST && nsf_remove_left(draft)) {
+        file = open(draft, flags, 0666);
+        if (file < 0 && errno == EEXIST)
+            errno = EWOULDBLOCK;
+    }
+    return file;
+}
+
+/* Opens the file of the draft and locks it, with as many sectors of zeros as are asked for, all of them safe. */
+static inline bool nsf_file_clear(nsf_file *f, const char *draft, uint64_t sectors)
 {
     static const uint8_t zeros[NSF_SECTOR] = {0};
-    f->file = open(path, O_RDWR | O_CREAT | O_EXCL | O_CLOEXEC, 0666);
+    f->file = nsf_new_draft(draft);
     if (f->file < 0)
         return false;
-    bool done = flock(f->file, LOCK_EX | LOCK_NB) == 0;
+    const bool is_own = nsf_own_draft(f->file, draft);
+    bool done = is_own;
     for (uint64_t n = 0; done && n < sectors; n++)
         done = nsf_put_all_at(f->file, zeros, NSF_SECTOR, (off_t)(n * NSF_SECTOR));
     done = done && fsync(f->file) == 0;
     if (!done) {
         int why = errno;
-        unlink(path);
+        if (is_own)
+            unlink(draft);
         errno = why;
         nsf_file_leave(f);
     }
@@ -210,13 +290,13 @@ static inline uint32_t nsf_file_make(nsf_file *f, const char *draft, const char 
     return refused;
 }
 
-/* Makes a store in a new file and opens it. Until it is made, the file has the name with .new behind it, so that a crash meanwhile
- * leaves no half of a store. A file that has one of the names is left alone (EEXIST). Where it is refused, no file is left but that. `f`
- * stays where it is until nsf_file_close. */
+/* Makes a store in a new file and opens it. Until it is made, the file has the name with .new added, its draft, so that a crash meanwhile
+ * leaves no half of a store. A draft that such a crash left is removed: one that nobody has open, and that begins with a store or with
+ * zeros. Another file that has one of the names is left alone (EEXIST), and so is a draft that another process makes now (EWOULDBLOCK).
+ * Where the call is refused, no other file is left. `f` stays where it is until nsf_file_close. */
 static inline uint32_t nsf_file_create(nsf_file *f, const char *path, uint32_t pages, uint32_t entries, uint32_t slots)
 {
     const nsf_handle vacant = NSF_VACANT;
-    size_t length = strlen(path) + 5;
     uint32_t refused = NSF_SYSTEM;
     f->handle = vacant;
     if (nsf_sectors(pages, entries, slots) == 0)
@@ -225,10 +305,9 @@ static inline uint32_t nsf_file_create(nsf_file *f, const char *path, uint32_t p
         errno = EEXIST;
         return NSF_SYSTEM;
     }
-    char *draft = (char *)malloc(length);
+    char *draft = nsf_draft_of(path);
     if (!draft)
         return NSF_SYSTEM;
-    snprintf(draft, length, "%s.new", path);
     refused = nsf_file_make(f, draft, path, pages, entries, slots);
     int why = errno;
     free(draft);
@@ -248,8 +327,19 @@ static inline bool nsf_file_fits(const nsf_file *f, size_t *length)
         && found.st_size <= (off_t)NSF_SECTOR << 23;
 }
 
+/* Ends the creation of a file that was cut off once the file had its name: the name of its draft goes, if the file has that too. */
+static inline bool nsf_end_creation(int file, const char *path)
+{
+    char *draft = nsf_draft_of(path);
+    const bool done = draft && (!nsf_has_name(file, draft) || unlink(draft) == 0);
+    int why = errno;
+    free(draft);
+    errno = why;
+    return done;
+}
+
 /* Reads the file, which is locked then. Its name and its bytes are safe: the folder is synced, if it may be read, and what was read is
- * written back and synced. Behind a sync that failed in an earlier process the system may show bytes that no disk has, and call them
+ * written back and synced. After a sync that failed in an earlier process the system may show bytes that no disk has, and call them
  * safe. */
 static inline uint8_t *nsf_file_read(nsf_file *f, const char *path, size_t *length)
 {
@@ -257,7 +347,7 @@ static inline uint8_t *nsf_file_read(nsf_file *f, const char *path, size_t *leng
     f->file = open(path, O_RDWR | O_CLOEXEC);
     if (f->file < 0)
         return NULL;
-    if (flock(f->file, LOCK_EX | LOCK_NB) == 0 && nsf_file_fits(f, length)
+    if (flock(f->file, LOCK_EX | LOCK_NB) == 0 && nsf_file_fits(f, length) && nsf_end_creation(f->file, path)
         && (nsf_sync_folder(path) || errno == EACCES))
         bytes = (uint8_t *)malloc(*length);
     if (bytes && (lseek(f->file, 0, SEEK_SET) != 0 || !nsf_take_all(f->file, bytes, *length)
@@ -272,7 +362,18 @@ static inline uint8_t *nsf_file_read(nsf_file *f, const char *path, size_t *leng
     return bytes;
 }
 
-/* Opens the store in a file. `f` stays where it is until nsf_file_close. */
+/* Opens the store that the bytes hold under the handle, where its index fits its rows (nsf_can_open). */
+static inline uint32_t nsf_open_sound(nsf_file *f, const uint8_t *bytes, size_t length)
+{
+    uint32_t refused = nsf_open(&f->handle, f->line[0], bytes, length);
+    if (refused || nsf_can_open(&f->handle))
+        return refused;
+    nsf_close(&f->handle);
+    return NSF_UNSOUND;
+}
+
+/* Opens the store in a file. One whose index isn't that of its rows is refused by NSF_UNSOUND. (To look at such a store, read the file and
+ * call nsf_open.) `f` stays where it is until nsf_file_close. */
 static inline uint32_t nsf_file_open(nsf_file *f, const char *path)
 {
     const nsf_handle vacant = NSF_VACANT;
@@ -283,7 +384,7 @@ static inline uint32_t nsf_file_open(nsf_file *f, const char *path)
     if (!bytes)
         return NSF_SYSTEM;
     if (nsf_file_start(f)) {
-        refused = nsf_open(&f->handle, f->line[0], bytes, length);
+        refused = nsf_open_sound(f, bytes, length);
         if (refused)
             nsf_file_stop(f);
     } else {
@@ -295,9 +396,12 @@ static inline uint32_t nsf_file_open(nsf_file *f, const char *path)
     return refused;
 }
 
-/* Closes the store and its file. What was not flushed is lost. */
+/* Closes the store and its file. What was not flushed is lost. Where none is open, as after a refused opening, or once it was closed, it
+ * does nothing. */
 static inline void nsf_file_close(nsf_file *f)
 {
+    if (!f->handle.at)
+        return;
     nsf_close(&f->handle);
     nsf_file_stop(f);
 }

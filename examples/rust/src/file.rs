@@ -1,10 +1,10 @@
 //! The file that a store is in, and its name.
 use crate::sys;
-use std::ffi::OsStr;
-use std::fs::{self, File, OpenOptions};
+use std::ffi::{OsStr, OsString};
+use std::fs::{self, File, OpenOptions, TryLockError};
 use std::io::{self, ErrorKind, Write};
 use std::os::fd::AsRawFd;
-use std::os::unix::fs::MetadataExt;
+use std::os::unix::fs::{FileExt, MetadataExt};
 use std::path::Path;
 
 /// Locks a file. One that was opened to append is refused: what is written to it goes to its end, wherever it is to be.
@@ -14,6 +14,76 @@ pub fn lock(file: &File) -> io::Result<()> {
         return Err(io::Error::from(ErrorKind::InvalidInput));
     }
     file.try_lock().map_err(io::Error::from)
+}
+
+/// The name of the draft of the file of this name.
+pub fn draft_of(path: &Path) -> OsString {
+    let mut draft = path.as_os_str().to_owned();
+    draft.push(".new");
+    draft
+}
+
+// Whether the file that is open has this name.
+fn has_name(file: &File, name: &OsStr) -> io::Result<bool> {
+    let found = file.metadata()?;
+    match fs::symlink_metadata(name) {
+        Ok(named) => Ok((found.dev(), found.ino()) == (named.dev(), named.ino())),
+        Err(error) if error.kind() == ErrorKind::NotFound => Ok(false),
+        Err(error) => Err(error),
+    }
+}
+
+/// Locks the draft, where it has its name still: whoever has that lock makes the file, or removes it. Else it is
+/// another's (`WouldBlock`).
+pub fn own(file: &File, draft: &OsStr) -> io::Result<()> {
+    match file.try_lock() {
+        Err(TryLockError::Error(error)) => Err(error),
+        Ok(()) if has_name(file, draft)? => Ok(()),
+        _ => Err(io::Error::from(ErrorKind::WouldBlock)),
+    }
+}
+
+// Whether the file begins as a draft does: with a store, plain or of blocks, or with zeros, as far as it has a first
+// sector.
+fn is_draft(file: &File) -> io::Result<bool> {
+    let mut first = [0; 512];
+    file.read_at(&mut first, 0)?;
+    Ok(first.starts_with(b"NSFINDEX") || first.starts_with(b"NSFBLOCK") || first == [0; 512])
+}
+
+// Removes the draft of a making that was cut off. The error is `WouldBlock` where another process makes the file now,
+// and `AlreadyExists` where something else has the name.
+fn remove_left(draft: &OsStr) -> io::Result<()> {
+    let as_taken = |error: io::Error| match error.kind() {
+        ErrorKind::NotFound => io::Error::from(ErrorKind::WouldBlock),
+        _ => error,
+    };
+    if !fs::symlink_metadata(draft).map_err(as_taken)?.is_file() {
+        return Err(io::Error::from(ErrorKind::AlreadyExists));
+    }
+    let file = File::open(draft).map_err(as_taken)?;
+    own(&file, draft)?;
+    if !is_draft(&file)? {
+        return Err(io::Error::from(ErrorKind::AlreadyExists));
+    }
+    fs::remove_file(draft)
+}
+
+/// Makes and locks the file of the draft, in place of one that was left.
+pub fn begin(draft: &OsStr) -> io::Result<File> {
+    let new = || {
+        let mut options = OpenOptions::new();
+        options.read(true).write(true).create_new(true).open(draft)
+    };
+    let file = match new() {
+        Err(error) if error.kind() == ErrorKind::AlreadyExists => {
+            remove_left(draft)?;
+            new()?
+        }
+        made => made?,
+    };
+    own(&file, draft)?;
+    Ok(file)
 }
 
 /// Writes so many sectors of zeros into an empty file, all of them safe. Where that is refused, it is empty again.
@@ -47,6 +117,11 @@ pub fn take(path: &Path) -> io::Result<File> {
     }
     if !found.is_file() || found.len() > LENGTH_MAX {
         return Err(io::Error::from(ErrorKind::InvalidInput));
+    }
+    let draft = draft_of(path);
+    if has_name(&file, &draft)? {
+        // who made it was cut off once it had its name
+        fs::remove_file(draft)?;
     }
     match sync_folder(path) {
         Err(error) if error.kind() != ErrorKind::PermissionDenied => Err(error),

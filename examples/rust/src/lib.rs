@@ -10,7 +10,7 @@ mod sys;
 
 use device::Device;
 use std::fmt;
-use std::fs::{self, File, OpenOptions};
+use std::fs::{self, File};
 use std::io::{self, ErrorKind, Read, Seek, SeekFrom, Write};
 use std::marker::PhantomData;
 use std::path::Path;
@@ -19,13 +19,21 @@ pub use scan::{Pair, Range, Scan, ScanBack};
 pub use shared::{Seat, Shared};
 pub use sys::Place;
 
-/// Why a call was refused: by its number in nsf.h; as the transaction owes a step or has a change left; or by the
-/// system. Or what was asked for is done, and isn't safe, as a flush was refused by this number.
+/// Why a call was refused.
 #[derive(Debug)]
 pub enum Refused {
+    /// By its number in nsf.h.
     Store(u32),
+    /// The transaction owes a step, or has a change left.
     Unready,
+    /// What was asked for is done, and isn't safe, as a flush was refused by this number.
     Unsafe(u32),
+    /// The change of the row at this place is begun, and a further step of it was refused by this number: `finish` makes
+    /// the others, or `roll_back` takes it back.
+    Begun { place: Place, number: u32 },
+    /// The index of the store isn't that of its rows: `from_bytes` opens what the file has, to look at it.
+    Unsound,
+    /// By the system.
     System(io::Error),
 }
 
@@ -71,6 +79,14 @@ impl fmt::Display for Refused {
                     Refused::Store(*number)
                 )
             }
+            Refused::Begun { number, .. } => {
+                write!(
+                    f,
+                    "the change is begun, and a further step of it was refused: {}",
+                    Refused::Store(*number)
+                )
+            }
+            Refused::Unsound => f.write_str("the index of the store isn't that of its rows"),
             Refused::System(error) => write!(f, "{error}"),
         }
     }
@@ -215,7 +231,7 @@ impl Store {
         Ok(store)
     }
 
-    // Makes a store in the file. Where it is refused, that is told while the file is locked, if it could be.
+    // Makes a store in the file, which is locked. Where it is refused, that is told while it still is.
     fn created_in(mut file: File, geometry: Geometry, refuse: impl Fn()) -> Result<Store, Refused> {
         let Geometry {
             pages,
@@ -223,10 +239,7 @@ impl Store {
             slots,
         } = geometry;
         let sectors = unsafe { sys::nsf_sectors(pages, entries, slots) };
-        let locked = file::lock(&file).and_then(|()| {
-            file::fill(&mut file, sectors)?;
-            file.try_clone()
-        });
+        let locked = file::fill(&mut file, sectors).and_then(|()| file.try_clone());
         let locked = locked.inspect_err(|_| refuse())?;
         let device = Device::start(file).inspect_err(|_| refuse())?;
         let made = Store::created(Some(device), geometry, refuse);
@@ -239,18 +252,17 @@ impl Store {
         Store::created(None, geometry, || ())
     }
 
-    /// Makes a store in a new file. Until it is made, the file has the name with `.new` behind it, so that a crash
-    /// meanwhile leaves no half of a store. A file that has one of the two names is left alone. Where it is refused, no
-    /// file is left but that.
+    /// Makes a store in a new file. Until it is made, the file has the name with `.new` added, its draft, so that a crash
+    /// meanwhile leaves no half of a store. A draft that such a crash left is removed: one that nobody has open, and that
+    /// begins with a store or with zeros. Another file that has one of the two names is left alone (`AlreadyExists`), and
+    /// so is a draft that another process makes now (`WouldBlock`). Where the call is refused, no other file is left.
     pub fn create_at(path: impl AsRef<Path>, geometry: Geometry) -> Result<Store, Refused> {
         let path = path.as_ref();
-        let mut draft = path.as_os_str().to_owned();
-        draft.push(".new");
-        let file = OpenOptions::new()
-            .read(true)
-            .write(true)
-            .create_new(true)
-            .open(&draft)?;
+        if fs::symlink_metadata(path).is_ok() {
+            return Err(io::Error::from(ErrorKind::AlreadyExists).into());
+        }
+        let draft = file::draft_of(path);
+        let file = file::begin(&draft)?;
         // as long as it is locked: who has opened it by its name finds that it has none
         let remove = || {
             let _ = fs::remove_file(&draft);
@@ -276,7 +288,8 @@ impl Store {
     }
 
     /// Opens the store in a file, which can be read and written, and locks it. What was read is written back and
-    /// synced: behind a sync that failed in an earlier process the system may show bytes that no disk has.
+    /// synced: after a sync that failed in an earlier process the system may show bytes that no disk has. One whose index
+    /// isn't that of its rows is refused.
     pub fn open(mut file: File) -> Result<Store, Refused> {
         file::lock(&file)?;
         let mut bytes = Vec::new();
@@ -289,6 +302,9 @@ impl Store {
         let line = device.line();
         let mut store = Store::vacant(Some(device));
         checked(unsafe { sys::nsf_open(&mut store.handle, line, bytes.as_ptr(), bytes.len()) })?;
+        if !store.is_sound() {
+            return Err(Refused::Unsound);
+        }
         Ok(store)
     }
 
@@ -371,6 +387,14 @@ impl Store {
         Ok(())
     }
 
+    // Makes the steps of a change behind its first one.
+    fn finish_begun(&mut self, txn: u64, place: Place) -> Result<(), Refused> {
+        match self.finish(txn) {
+            Err(Refused::Store(number)) => Err(Refused::Begun { place, number }),
+            finished => finished,
+        }
+    }
+
     /// Inserts a row.
     pub fn insert(&mut self, txn: u64, key: &[u8], body: &[u8]) -> Result<Place, Refused> {
         let event = sys::Event {
@@ -379,11 +403,12 @@ impl Store {
             ..sys::Event::default()
         };
         let reply = self.ask_ready(event, key, body)?;
-        self.finish(txn)?;
-        Ok(Place {
+        let place = Place {
             page: reply.page,
             slot: reply.slot,
-        })
+        };
+        self.finish_begun(txn, place)?;
+        Ok(place)
     }
 
     /// Deletes the row at a place.
@@ -395,7 +420,7 @@ impl Store {
             slot: place.slot,
         };
         self.ask_ready(event, &[], &[])?;
-        self.finish(txn)
+        self.finish_begun(txn, place)
     }
 
     /// Puts another row in place of the one at a place.
@@ -413,7 +438,7 @@ impl Store {
             slot: place.slot,
         };
         self.ask_ready(event, key, body)?;
-        self.finish(txn)
+        self.finish_begun(txn, place)
     }
 
     /// Takes back what a transaction did, and ends it.

@@ -5,7 +5,9 @@
 use crate::scan::{Pair, Range};
 use crate::sys::Place;
 use crate::{Built, Life, Refused, Row, Status, Store};
+use std::sync::atomic::{AtomicU64, Ordering};
 use std::sync::mpsc::{self, Receiver, RecvTimeoutError, Sender, SyncSender};
+use std::sync::Arc;
 use std::thread::{self, JoinHandle};
 use std::time::{Duration, Instant};
 
@@ -35,15 +37,21 @@ enum Wanted {
 // So many things are done at most before what was committed is made safe.
 const BATCH: usize = 64;
 
+// A transaction that is active, and the number of its seat; none where it is nobody's, and is to be rolled back yet.
+#[derive(Clone, Copy, PartialEq, Eq)]
+struct Active {
+    txn: u64,
+    seat: Option<u64>,
+}
+
 // The thread that has the store.
 struct Owner {
     store: Store,
     waiting: Vec<Waiting>,
     held: Vec<Wanted>,
     quiet: Option<(Job, Option<Instant>)>,
-    active: u64,
-    // transactions of `put` that are to be rolled back yet
-    left: Vec<u64>,
+    // the transactions that are active
+    active: Vec<Active>,
     unflushed: u32,
     builds: bool,
 }
@@ -56,8 +64,7 @@ impl Owner {
             waiting: Vec::new(),
             held: Vec::new(),
             quiet: None,
-            active: 0,
-            left: Vec::new(),
+            active: Vec::new(),
             unflushed: 0,
             builds,
         }
@@ -86,8 +93,8 @@ impl Owner {
     // The creation or dropping that waits, once no transaction is active or its time is over.
     fn take_due(&mut self) -> Option<Job> {
         let is_late = |at: Option<Instant>| at.is_some_and(|at| Instant::now() >= at);
-        let active = self.active;
-        let due = self.quiet.take_if(|(_, at)| active == 0 || is_late(*at));
+        let is_quiet = self.active.is_empty();
+        let due = self.quiet.take_if(|(_, at)| is_quiet || is_late(*at));
         due.map(|(job, _)| job)
     }
 
@@ -102,13 +109,16 @@ impl Owner {
         }
     }
 
-    // Rolls back what couldn't be before.
-    fn roll_back_left(&mut self) {
-        while let Some(&txn) = self.left.last() {
-            if self.roll_back(txn).is_err() {
-                return;
+    // Rolls a seat's transactions back, or nobody's. Those of which that is refused are nobody's then.
+    fn roll_back_of(&mut self, seat: Option<u64>) {
+        for mut it in std::mem::take(&mut self.active) {
+            if it.seat == seat {
+                if self.store.roll_back(it.txn).is_ok() {
+                    continue;
+                }
+                it.seat = None;
             }
-            self.left.pop();
+            self.active.push(it);
         }
     }
 
@@ -170,7 +180,7 @@ impl Owner {
                 goes_on &= !matches!(it, Wanted::Stop);
                 self.take(it);
             }
-            self.roll_back_left();
+            self.roll_back_of(None);
             self.end_quiet();
             if !self.waiting.is_empty() {
                 self.make_safe();
@@ -190,13 +200,44 @@ fn is_building(status: &Status) -> bool {
 /// A store that is shared. Where it is dropped, what was committed is flushed, and the store is closed.
 pub struct Shared {
     wanted: Sender<Wanted>,
+    // how many seats there were
+    seats: Arc<AtomicU64>,
     owner: Option<JoinHandle<Result<(), Refused>>>,
 }
 
-/// A seat at a shared store, of one thread at a time.
-#[derive(Clone)]
+/// A seat at a shared store, of one thread at a time. A transaction is of the seat that began it: of another one each
+/// call is refused (9), and where its seat is dropped it is rolled back.
 pub struct Seat {
     wanted: Sender<Wanted>,
+    seats: Arc<AtomicU64>,
+    number: u64,
+}
+
+impl Seat {
+    fn new(wanted: Sender<Wanted>, seats: Arc<AtomicU64>) -> Seat {
+        let number = seats.fetch_add(1, Ordering::SeqCst);
+        Seat {
+            wanted,
+            seats,
+            number,
+        }
+    }
+}
+
+/// A clone is another seat.
+impl Clone for Seat {
+    fn clone(&self) -> Seat {
+        Seat::new(self.wanted.clone(), Arc::clone(&self.seats))
+    }
+}
+
+impl Drop for Seat {
+    fn drop(&mut self) {
+        let number = Some(self.number);
+        let leave = move |owner: &mut Owner| owner.roll_back_of(number);
+        // the error is that the store is closed
+        let _ = self.wanted.send(Wanted::Now(Box::new(leave)));
+    }
 }
 
 impl Shared {
@@ -219,15 +260,14 @@ impl Shared {
         is_open.recv().unwrap_or(Err(Refused::Store(STOPPED)))?;
         Ok(Shared {
             wanted,
+            seats: Arc::default(),
             owner: Some(owner),
         })
     }
 
     /// A seat.
     pub fn seat(&self) -> Seat {
-        Seat {
-            wanted: self.wanted.clone(),
-        }
+        Seat::new(self.wanted.clone(), Arc::clone(&self.seats))
     }
 
     /// Makes what was committed safe, and closes the store. Calls of seats are refused from then on.
@@ -251,7 +291,8 @@ impl Drop for Shared {
     }
 }
 
-// The number of the refusal of what is asked of a store that was closed.
+// The numbers of two refusals: of a transaction that isn't this seat's, and of what is asked of a store that was closed.
+const NO_SUCH_TXN: u32 = 9;
 const STOPPED: u32 = 20;
 
 fn stopped<E>(_: E) -> Refused {
@@ -289,32 +330,54 @@ where
 }
 
 impl Owner {
-    fn begin(&mut self) -> Result<u64, Refused> {
+    // Refuses a transaction that isn't this seat's.
+    fn own(&self, seat: u64, txn: u64) -> Result<(), Refused> {
+        let seat = Some(seat);
+        if self.active.contains(&Active { txn, seat }) {
+            return Ok(());
+        }
+        Err(Refused::Store(NO_SUCH_TXN))
+    }
+
+    fn begin(&mut self, seat: u64) -> Result<u64, Refused> {
         let txn = self.store.begin()?;
-        self.active += 1;
+        let seat = Some(seat);
+        self.active.push(Active { txn, seat });
         Ok(txn)
     }
 
-    fn commit(&mut self, txn: u64) -> Result<(), Refused> {
+    // The transaction is active no longer.
+    fn forget(&mut self, txn: u64) {
+        self.active.retain(|it| it.txn != txn);
+    }
+
+    fn commit(&mut self, seat: u64, txn: u64) -> Result<(), Refused> {
+        self.own(seat, txn)?;
         self.store.commit(txn)?;
-        self.active -= 1;
+        self.forget(txn);
         Ok(())
     }
 
-    fn roll_back(&mut self, txn: u64) -> Result<(), Refused> {
+    fn roll_back(&mut self, seat: u64, txn: u64) -> Result<(), Refused> {
+        self.own(seat, txn)?;
         self.store.roll_back(txn)?;
-        self.active -= 1;
+        self.forget(txn);
         Ok(())
     }
 
-    fn put(&mut self, key: &[u8], body: &[u8]) -> Result<Place, Refused> {
-        let txn = self.begin()?;
+    fn put(&mut self, seat: u64, key: &[u8], body: &[u8]) -> Result<Place, Refused> {
+        let txn = self.begin(seat)?;
         let put = self.store.insert(txn, key, body).and_then(|place| {
-            self.commit(txn)?;
+            self.commit(seat, txn)?;
             Ok(place)
         });
-        if put.is_err() && self.roll_back(txn).is_err() {
-            self.left.push(txn);
+        if put.is_ok() || self.roll_back(seat, txn).is_ok() {
+            return put;
+        }
+        for it in &mut self.active {
+            if it.txn == txn {
+                it.seat = None;
+            }
         }
         put
     }
@@ -349,42 +412,59 @@ impl Seat {
         self.want(|answer| Wanted::Now(answered(answer, does)))
     }
 
+    // The same of a transaction of this seat.
+    fn ask_of<T: Send + 'static>(
+        &self,
+        txn: u64,
+        does: impl FnOnce(&mut Store) -> Result<T, Refused> + Send + 'static,
+    ) -> Result<T, Refused> {
+        let seat = self.number;
+        self.ask(move |owner| {
+            owner.own(seat, txn)?;
+            does(&mut owner.store)
+        })
+    }
+
     /// Begins a transaction. While the index is to be created or dropped, it waits.
     pub fn begin(&self) -> Result<u64, Refused> {
-        self.want(|answer| Wanted::Begin(answered(answer, |owner| owner.begin())))
+        let seat = self.number;
+        self.want(|answer| Wanted::Begin(answered(answer, move |owner| owner.begin(seat))))
     }
 
     /// Inserts a row.
     pub fn insert(&self, txn: u64, key: &[u8], body: &[u8]) -> Result<Place, Refused> {
         let (key, body) = (key.to_vec(), body.to_vec());
-        self.ask(move |owner| owner.store.insert(txn, &key, &body))
+        self.ask_of(txn, move |store| store.insert(txn, &key, &body))
     }
 
     /// Deletes the row at a place.
     pub fn delete(&self, txn: u64, place: Place) -> Result<(), Refused> {
-        self.ask(move |owner| owner.store.delete(txn, place))
+        self.ask_of(txn, move |store| store.delete(txn, place))
     }
 
     /// Puts another row in place of the one at a place.
     pub fn update(&self, txn: u64, place: Place, key: &[u8], body: &[u8]) -> Result<(), Refused> {
         let (key, body) = (key.to_vec(), body.to_vec());
-        self.ask(move |owner| owner.store.update(txn, place, &key, &body))
+        self.ask_of(txn, move |store| store.update(txn, place, &key, &body))
     }
 
     /// Commits, and waits until the transaction is safe. By `Refused::Unsafe` it is committed, and not safe yet; by any
     /// other refusal it is active as before.
     pub fn commit(&self, txn: u64) -> Result<(), Refused> {
-        self.want(|answer| Wanted::Now(answered_safe(answer, move |owner| owner.commit(txn))))
+        let seat = self.number;
+        let commit = move |owner: &mut Owner| owner.commit(seat, txn);
+        self.want(|answer| Wanted::Now(answered_safe(answer, commit)))
     }
 
     /// Commits, and waits for nothing: it is safe once `wait` answered behind it.
     pub fn commit_later(&self, txn: u64) -> Result<(), Refused> {
-        self.ask(move |owner| owner.commit(txn))
+        let seat = self.number;
+        self.ask(move |owner| owner.commit(seat, txn))
     }
 
     /// Makes the steps that a change of the transaction still owes, where one was refused.
     pub fn finish(&self, txn: u64) -> Result<(), Refused> {
-        self.ask(move |owner| owner.store.finish(txn))
+        self.ask_of(txn, move |store| store.finish(txn))
     }
 
     /// Waits until all that was committed before is safe.
@@ -394,16 +474,16 @@ impl Seat {
 
     /// Takes back what a transaction did, and ends it.
     pub fn roll_back(&self, txn: u64) -> Result<(), Refused> {
-        self.ask(move |owner| owner.roll_back(txn))
+        let seat = self.number;
+        self.ask(move |owner| owner.roll_back(seat, txn))
     }
 
     /// Inserts a row in a transaction of its own, and waits until it is safe. By `Refused::Unsafe` the row is there, and
     /// not safe yet; by any other refusal it isn't.
     pub fn put(&self, key: &[u8], body: &[u8]) -> Result<Place, Refused> {
-        let (key, body) = (key.to_vec(), body.to_vec());
-        self.want(|answer| {
-            Wanted::Begin(answered_safe(answer, move |owner| owner.put(&key, &body)))
-        })
+        let (key, body, seat) = (key.to_vec(), body.to_vec(), self.number);
+        let put = move |owner: &mut Owner| owner.put(seat, &key, &body);
+        self.want(|answer| Wanted::Begin(answered_safe(answer, put)))
     }
 
     /// Does this in a transaction, which is committed where it answers, and else rolled back, also where it panics. By
@@ -505,12 +585,17 @@ impl Seat {
         })
     }
 
-    /// Takes the marked entries out of the index that nobody needs any more, up to its end, and answers how many. Other
-    /// seats have their turn meanwhile.
+    /// Looks at some entries of the index, from where it stopped, and takes those out that are marked and that nobody
+    /// needs any more. Answers how many, and whether it is at the end of the index; the next call begins anew then.
+    pub fn clean_on(&self) -> Result<(u64, bool), Refused> {
+        self.ask(|owner| owner.store.clean_on())
+    }
+
+    /// The same up to the end of the index. Other seats have their turn meanwhile.
     pub fn clean(&self) -> Result<u64, Refused> {
         let mut taken = 0;
         loop {
-            let (more, is_at_end) = self.ask(|owner| owner.store.clean_on())?;
+            let (more, is_at_end) = self.clean_on()?;
             taken += more;
             if is_at_end {
                 return Ok(taken);

@@ -212,3 +212,66 @@ fn a_transaction_is_rolled_back_where_its_work_panics() {
     await_index(&seat);
     assert!(seat.find(b"key").unwrap().is_empty());
 }
+
+#[test]
+fn a_transaction_is_of_one_seat() {
+    let shared = Shared::start(|| Store::in_memory(GEOMETRY)).unwrap();
+    let seat = shared.seat();
+    let other = seat.clone();
+    let txn = seat.begin().unwrap();
+    let place = seat.insert(txn, b"ant", b"1").unwrap();
+    let refusals = [
+        other.insert(txn, b"bee", b"2").err(),
+        other.update(txn, place, b"bee", b"2").err(),
+        other.delete(txn, place).err(),
+        other.finish(txn).err(),
+        other.commit(txn).err(),
+        other.commit_later(txn).err(),
+        other.roll_back(txn).err(),
+    ];
+    for refused in refusals {
+        assert!(matches!(refused, Some(Refused::Store(9))));
+    }
+    seat.commit(txn).unwrap();
+    assert_eq!(other.get_committed(place).unwrap().unwrap().key, b"ant");
+    assert!(matches!(seat.commit(txn), Err(Refused::Store(9))));
+}
+
+#[test]
+fn what_a_seat_leaves_behind_is_rolled_back() {
+    let shared = Shared::start(|| Store::in_memory(GEOMETRY)).unwrap();
+    let (seat, other) = (shared.seat(), shared.seat());
+    let kept = seat.begin().unwrap();
+    seat.insert(kept, b"ant", b"1").unwrap();
+    for _ in 0..3 {
+        let lost = other.begin().unwrap();
+        other.insert(lost, b"bee", b"2").unwrap();
+    }
+    drop(other);
+    assert!(matches!(
+        seat.create_index(Duration::ZERO),
+        Err(Refused::Store(16))
+    ));
+    seat.commit(kept).unwrap();
+    seat.create_index(Duration::ZERO).unwrap();
+    await_index(&seat);
+    assert_eq!(seat.find(b"ant").unwrap().len(), 1);
+    assert!(seat.find(b"bee").unwrap().is_empty());
+}
+
+#[test]
+fn an_index_is_cleaned_by_pieces() {
+    let shared = Shared::start(|| Store::in_memory(GEOMETRY)).unwrap();
+    let seat = shared.seat();
+    seat.create_index(PATIENCE).unwrap();
+    await_index(&seat);
+    for i in 0..300u32 {
+        let place = seat.put(&i.to_be_bytes(), b"row").unwrap();
+        seat.transact(|seat, txn| seat.delete(txn, place)).unwrap();
+    }
+    let (first, is_at_end) = seat.clean_on().unwrap();
+    assert!(first > 0 && !is_at_end);
+    let (second, is_at_end) = seat.clean_on().unwrap();
+    assert!(is_at_end);
+    assert_eq!(first + second, 300);
+}

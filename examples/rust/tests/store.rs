@@ -208,6 +208,61 @@ fn a_store_is_made_in_an_empty_file_alone() {
     std::fs::remove_file(path).unwrap();
 }
 
+// A draft that a killed making left: empty, zeros, or a store that is whole; or the file has its name too.
+#[test]
+fn a_draft_that_was_left_gives_way() {
+    let path = std::env::temp_dir().join(format!("nsf-rust-left-{}", std::process::id()));
+    let draft = path.with_extension("new");
+    drop(Store::create_at(&path, GEOMETRY).unwrap());
+    let whole = std::fs::read(&path).unwrap();
+    std::fs::remove_file(&path).unwrap();
+    for left in [&[][..], &[0; 700], &whole] {
+        std::fs::write(&draft, left).unwrap();
+        drop(Store::create_at(&path, GEOMETRY).unwrap());
+        assert!(!draft.exists());
+        std::fs::remove_file(&path).unwrap();
+    }
+    let made = File::create(&draft).unwrap();
+    made.try_lock().unwrap();
+    let refused = Store::create_at(&path, GEOMETRY).err();
+    assert!(matches!(refused, Some(Refused::System(it)) if it.kind() == ErrorKind::WouldBlock));
+    assert!(draft.exists());
+    drop(made);
+    drop(Store::create_at(&path, GEOMETRY).unwrap());
+    std::fs::hard_link(&path, &draft).unwrap();
+    drop(Store::open_at(&path).unwrap());
+    assert!(!draft.exists());
+    std::fs::remove_file(path).unwrap();
+}
+
+// Where a byte of a row's key is another one, or of an entry's, the index isn't that of the rows.
+#[test]
+fn a_store_that_is_not_sound_is_refused() {
+    let path = std::env::temp_dir().join(format!("nsf-rust-unsound-{}", std::process::id()));
+    let key = b"a key that no other bytes are";
+    let mut store = Store::create_at(&path, GEOMETRY).unwrap();
+    put(&mut store, key, b"row").unwrap();
+    store.create_index().unwrap();
+    build(&mut store).unwrap();
+    store.image().unwrap();
+    drop(store);
+    let bytes = std::fs::read(&path).unwrap();
+    let mut unsound = 0;
+    for at in (0..bytes.len() - key.len()).filter(|at| bytes[*at..].starts_with(key)) {
+        let mut harmed = bytes.clone();
+        harmed[at] = b'z';
+        std::fs::write(&path, &harmed).unwrap();
+        match Store::open_at(&path) {
+            Ok(mut store) => assert!(store.is_sound()),
+            Err(Refused::Unsound) => unsound += 1,
+            Err(Refused::Store(_)) => continue,
+            Err(refused) => panic!("{refused}"),
+        }
+    }
+    assert!(unsound > 0);
+    std::fs::remove_file(path).unwrap();
+}
+
 // What is written to a file that is opened so is put at its end, wherever it is to be.
 #[test]
 fn a_file_that_is_appended_to_is_refused() {
