@@ -3,3 +3,4 @@ mod Fields
 mod Spots
 mod Opened
 mod Saved
+mod Reasons

@@ -1,5 +1,5 @@
 -- What the calls do.
-use Rattle.std.specs.Prelude.{◌≡◌, ◌⊎◌, ◌<◌, ◌≤◌, ℕ, false, ◌-◌, ◌/◌, ◌++◌, List, length, take, drop, min}
+use Rattle.std.specs.Prelude.{◌≡◌, ◌⊎◌, ◌<◌, ◌≤◌, ℕ, false, ◌-◌, ◌/◌, ◌++◌, List, length, replicate, take, drop, min}
 use Rattle.std.specs.FinMap as map
 use Rattle.std.specs.Simd.{first_chunks}
 use Rattle.std.specs.declared.alloc.Global.{Global}
@@ -9,10 +9,12 @@ use Rattle.record_values.specs.Refusals.{number_of}
 use Rattle.record_values.specs.declared.rid.TheConstants.{SLOTS_PER_PAGE}
 use Rattle.record_values.specs.declared.error.Error.{Error}
 use Rattle.record_values.specs.declared.error.Error.TheVariants.{NoMemory, DeviceFailed, BadGeometry}
-use Rattle.sector_device.specs.Disk.{CrashState, sector, IsSynced}
+use Rattle.sector_device.specs.DevicePast.{Rises}
+use Rattle.sector_device.specs.Disk.{CrashState, sector, IsSynced, SameOutside}
+use Rattle.sector_device.specs.Values.{zero_sector}
 use Rattle.store_file.specs.FileDisk.{past_of, failures_of}
 use Rattle.flip_image.specs.declared.half.Half.TheVariants.{A}
-use Rattle.flip_image.specs.Store.{AreGatesClosed, IsFormatted}
+use Rattle.flip_image.specs.Store.{AreGatesClosed, IsFormatSector, IsFormatted}
 use Rattle.core_model.specs.Histories.{CanOpen}
 use Rattle.core_laws.specs.Holds.{committed_rows}
 use Rattle.core_parts.specs.Counts.{marked_in}
@@ -171,9 +173,21 @@ Is sectors content = content ≡ sectors
 abbrev pub IsNotOpened : CrashState → ℕ → Type 0
 IsNotOpened sectors status = (status ≡ number_of NoMemory) ⊎ IsRefusedOn (Is sectors) status
 
+-- as many sectors of zeros as a store of this geometry needs
+abbrev pub AreZeros : GeometryValue → CrashState → Type 0
+AreZeros g content = content ≡ replicate (geometry.sectors_of g) zero_sector
+
+-- On such a disk the store was to be made, and a call of it failed.
+pub record FailedAsMade (g : GeometryValue) (status : ℕ) : Type 0 where
+  pub disk : Disk
+  pub after : Disk
+  pub is_disk : IsDisk (AreZeros g) disk
+  pub writes : SameOutside (IsFormatSector g) (past_of disk).disk.content (past_of after).disk.content
+  pub fails : Rises (failures_of disk) (failures_of after)
+  pub status_is : status ≡ number_of DeviceFailed
+
 -- why no store was made: the numbers are no geometry; or they are, and there was no memory, or a call of the device
 -- failed, or a restart on the store just made refused
 abbrev pub IsNotMade : GeometryValue → ℕ → Type 0
 IsNotMade g status = ((¬ IsGeometry g) × (status ≡ number_of BadGeometry))
-    ⊎ (IsGeometry g × ((status ≡ number_of NoMemory) ⊎ (status ≡ number_of DeviceFailed)
-    ⊎ IsRefusedOn (IsMade g) status))
+    ⊎ (IsGeometry g × ((status ≡ number_of NoMemory) ⊎ FailedAsMade g status ⊎ IsRefusedOn (IsMade g) status))

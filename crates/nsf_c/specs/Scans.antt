@@ -32,16 +32,21 @@ IsBound k key (Excluded at) = (k ≡ 2) × (at ≡ key) × (length key ≤ KEY_M
 abbrev pub IsNoBound : ℕ → List ℕ → ℕ → Type 0
 IsNoBound k key n = ((n ≡ 24) × (2 < k)) ⊎ ((n ≡ 14) × (0 < k) × (k ≤ 2) × (KEY_MAX < length key))
 
+-- no number is a reason
+abbrev pub IsFine : (ℕ → Type 0) → Type 0
+IsFine Bad = (n : ℕ) → ¬ Bad n
+
 -- the pair from which to go on, where there is one
 abbrev pub IsGivenPair : Bounds → List ℕ → Option Pair → Type 0
 IsGivenPair b key None = b.goes_on ≡ 0
 IsGivenPair b key (Some p) = (b.goes_on ≡ 1) × (p ≡ record { key = key; rid = record { page = b.page; slot = b.slot } })
     × (length key ≤ KEY_MAX) × (b.slot < SLOTS_PER_PAGE)
 
--- why there is no such pair: it isn't said whether there is one, its key is too long, or its slot is on no page
+-- why there is no such pair: it isn't said whether there is one; its key is too long; or it isn't, and its slot is on no
+-- page
 abbrev pub IsNoPair : Bounds → List ℕ → ℕ → Type 0
 IsNoPair b key n = ((n ≡ 24) × (1 < b.goes_on)) ⊎ ((n ≡ 14) × (b.goes_on ≡ 1) × (KEY_MAX < length key))
-    ⊎ ((n ≡ 10) × (b.goes_on ≡ 1) × (SLOTS_PER_PAGE ≤ b.slot))
+    ⊎ ((n ≡ 10) × (b.goes_on ≡ 1) × (length key ≤ KEY_MAX) × (SLOTS_PER_PAGE ≤ b.slot))
 
 -- a yes or a no, as C asks for it
 abbrev pub IsFlag : ℕ → Bool → Type 0
@@ -56,15 +61,22 @@ index_read false v = v.index.entries
 abbrev pub IsRead : Bounds → CoreValue → Index → Type 0
 IsRead b v index = (is_committed : Bool) × IsFlag b.committed is_committed × (index ≡ index_read is_committed v)
 
--- why nothing is asked for: one of these
+-- why bounds and pair are none: the first of these, in this order
+abbrev pub IsNoRange : Bounds → List ℕ → List ℕ → List ℕ → ℕ → Type 0
+IsNoRange b from to given n =
+    IsNoBound b.from from n
+    ⊎ (IsNoBound b.to to n × IsFine (IsNoBound b.from from))
+    ⊎ (IsNoPair b given n × IsFine (IsNoBound b.from from) × IsFine (IsNoBound b.to to))
+
+-- why nothing is asked for: that, or else that no index is read so
 abbrev pub IsNoScan : Bounds → List ℕ → List ℕ → List ℕ → ℕ → Type 0
-IsNoScan b from to behind n = IsNoBound b.from from n ⊎ IsNoBound b.to to n ⊎ IsNoPair b behind n
-    ⊎ ((n ≡ 24) × (1 < b.committed))
+IsNoScan b from to behind n = IsNoRange b from to behind n
+    ⊎ ((n ≡ 24) × (1 < b.committed) × IsFine (IsNoRange b from to behind))
 
 -- and why nothing is asked for backward: what is committed isn't read so
 abbrev pub IsNoScanBack : Bounds → List ℕ → List ℕ → List ℕ → ℕ → Type 0
-IsNoScanBack b from to ahead n = IsNoBound b.from from n ⊎ IsNoBound b.to to n ⊎ IsNoPair b ahead n
-    ⊎ ((n ≡ 24) × (0 < b.committed))
+IsNoScanBack b from to ahead n = IsNoRange b from to ahead n
+    ⊎ ((n ≡ 24) × (0 < b.committed) × IsFine (IsNoRange b from to ahead))
 
 -- ---- what is told
 

@@ -1,6 +1,7 @@
 //! A range of keys, as C asks for it, and the pair from which to go on.
-ghost use Rattle.std.specs.Prelude.{◌≡◌, ◌⊎◌, ◌<◌, ◌≤◌, ℕ, IfOk, IfErr};
-ghost use Rattle.nsf_c.specs.Scans.{IsGivenPair, IsBound, IsFlag, IsNoBound, IsNoPair, IsNoScan, IsNoScanBack};
+ghost use Rattle.std.specs.Prelude.{◌≡◌, ◌⊎◌, ◌<◌, ◌≤◌, ℕ, IfOk, IfErr, OnOk};
+ghost use Rattle.nsf_c.specs.Scans.{IsFine, IsGivenPair, IsBound, IsFlag, IsNoBound, IsNoPair, IsNoRange, IsNoScan};
+ghost use Rattle.nsf_c.specs.Scans.{IsNoScanBack};
 
 use crate::asked::{key_of, rid_of};
 use crate::kind::NO_SUCH_EVENT;
@@ -39,6 +40,7 @@ pub(crate) struct SoughtBack {
 
 fn bound_of(kind: u32, key: &[u8]) -> Result<Bound<Key>, u32>
     ensures ok { IfOk result (IsBound kind key.now) }
+    ensures fine { OnOk result (IsFine (IsNoBound kind key.now)) }
     ensures bad { IfErr result (IsNoBound kind key.now) }
 {
     match kind {
@@ -64,6 +66,7 @@ fn flag_of(number: u32) -> Result<bool, u32>
 impl Bounds {
     fn after(&self, key: &[u8]) -> Result<Option<Pair>, u32>
         ensures ok { IfOk result (IsGivenPair self.now key.now) }
+        ensures fine { OnOk result (IsFine (IsNoPair self.now key.now)) }
         ensures bad { IfErr result (IsNoPair self.now key.now) }
     {
         if !flag_of(self.goes_on)? {
@@ -78,16 +81,36 @@ impl Bounds {
     fn range(&self, from: &[u8], to: &[u8]) -> Result<KeyRange, u32>
         ensures begins { IfOk result (λ range. IsBound self.now.from from.now range.from) }
         ensures ends { IfOk result (λ range. IsBound self.now.to to.now range.to) }
-        ensures bad { IfErr result (λ n. IsNoBound self.now.from from.now n ⊎ IsNoBound self.now.to to.now n) }
+        ensures fine_from { OnOk result (IsFine (IsNoBound self.now.from from.now)) }
+        ensures fine_to { OnOk result (IsFine (IsNoBound self.now.to to.now)) }
+        ensures bad { IfErr result (λ n. IsNoBound self.now.from from.now n
+            ⊎ (IsNoBound self.now.to to.now n × IsFine (IsNoBound self.now.from from.now))) }
     {
-        Ok(KeyRange {
-            from: bound_of(self.from, from)?,
-            to: bound_of(self.to, to)?,
-        })
+        let (from, to) = (bound_of(self.from, from)?, bound_of(self.to, to)?);
+        Ok(KeyRange { from, to })
+    }
+
+    // The range, and the pair from which to go on.
+    fn range_and_pair(
+        &self,
+        from: &[u8],
+        to: &[u8],
+        given: &[u8],
+    ) -> Result<(KeyRange, Option<Pair>), u32>
+        ensures begins { IfOk result (λ it. IsBound self.now.from from.now it.0.from) }
+        ensures ends { IfOk result (λ it. IsBound self.now.to to.now it.0.to) }
+        ensures given { IfOk result (λ it. IsGivenPair self.now given.now it.1) }
+        ensures fine { OnOk result (IsFine (IsNoRange self.now from.now to.now given.now)) }
+        ensures bad { IfErr result (IsNoRange self.now from.now to.now given.now) }
+    {
+        let range = self.range(from, to)?;
+        let pair = self.after(given)?;
+        Ok((range, pair))
     }
 
     /// What is asked for, with these keys. The error is the number of the refusal: 24 where a number is none of those
-    /// that it may be, 14 for a key that is too long, 10 for a slot that is on no page.
+    /// that it may be, 14 for a key that is too long, 10 for a slot that is on no page. Of several it is that of the
+    /// first: where the range begins, where it ends, the pair, and the index that is read.
     pub(crate) fn sought(&self, from: &[u8], to: &[u8], behind: &[u8]) -> Result<Sought, u32>
         ensures begins { IfOk result (λ sought. IsBound self.now.from from.now sought.range.from) }
         ensures ends { IfOk result (λ sought. IsBound self.now.to to.now sought.range.to) }
@@ -95,8 +118,7 @@ impl Bounds {
         ensures committed { IfOk result (λ sought. IsFlag self.now.committed sought.is_committed) }
         ensures bad { IfErr result (IsNoScan self.now from.now to.now behind.now) }
     {
-        let range = self.range(from, to)?;
-        let after = self.after(behind)?;
+        let (range, after) = self.range_and_pair(from, to, behind)?;
         let is_committed = flag_of(self.committed)?;
         Ok(Sought {
             range,
@@ -119,8 +141,7 @@ impl Bounds {
         ensures uncommitted { IfOk result (λ sought. self.now.committed ≡ 0) }
         ensures bad { IfErr result (IsNoScanBack self.now from.now to.now ahead.now) }
     {
-        let range = self.range(from, to)?;
-        let before = self.after(ahead)?;
+        let (range, before) = self.range_and_pair(from, to, ahead)?;
         if self.committed != 0 {
             return Err(NO_SUCH_EVENT);
         }
