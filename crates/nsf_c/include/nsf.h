@@ -270,8 +270,8 @@ uint32_t nsf_image(nsf_handle *handle, nsf_reply *reply);
 
 /* Tells the first visible pair of a range of keys, or the first one behind the pair that is given by its key and its place: NSF_PAIR, or
  * NSF_AT_END where none is left. Pairs come in the order of their keys' bytes, then of their places. Where no index is complete it is
- * refused by 18 or 19, a number that is none of those above by 24, a key that is too long by 14, a slot that is on no page by 10; of
- * several it is one of these. */
+ * refused by 18 or 19, a number that is none of those above by 24, a key that is too long by 14, a slot that is on no page by 10. Of
+ * several it is that of the first: where the range begins, where it ends, the pair, `committed`, the index. */
 uint32_t nsf_next(nsf_handle *handle, const nsf_bounds *bounds, const uint8_t *from, size_t from_length, const uint8_t *to,
                   size_t to_length, const uint8_t *behind, size_t behind_length, nsf_reply *reply);
 

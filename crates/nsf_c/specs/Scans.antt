@@ -42,8 +42,8 @@ IsGivenPair b key None = b.goes_on ≡ 0
 IsGivenPair b key (Some p) = (b.goes_on ≡ 1) × (p ≡ record { key = key; rid = record { page = b.page; slot = b.slot } })
     × (length key ≤ KEY_MAX) × (b.slot < SLOTS_PER_PAGE)
 
--- why there is no such pair: it isn't said whether there is one; its key is too long; or it isn't, and its slot is on no
--- page
+-- why there is no such pair: it isn't said whether there is one; its key is too long; or it isn't, and its slot is on
+-- no page
 abbrev pub IsNoPair : Bounds → List ℕ → ℕ → Type 0
 IsNoPair b key n = ((n ≡ 24) × (1 < b.goes_on)) ⊎ ((n ≡ 14) × (b.goes_on ≡ 1) × (KEY_MAX < length key))
     ⊎ ((n ≡ 10) × (b.goes_on ≡ 1) × (length key ≤ KEY_MAX) × (SLOTS_PER_PAGE ≤ b.slot))

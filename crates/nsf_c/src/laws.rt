@@ -17,8 +17,8 @@ pub fn one_event()
         → m ≡ n }
 {}
 
-/// A law: a scan is refused for one reason at most (`bad`, `bad_back`), and for none where what is asked for is a range,
-/// and perhaps a pair, of an index that is read so (`fine`, `fine_back`). So `nsf_next` and `nsf_previous` answer no
+/// A law: a scan is refused for one reason at most (`bad`, `bad_back`), and for none where what is asked for is a range
+/// of an index that is read so, and perhaps a pair (`fine`, `fine_back`). So `nsf_next` and `nsf_previous` answer no
 /// other number than that of the first reason.
 pub fn one_scan()
     ensures bad { (b : Bounds) (from to behind : List ℕ) (m n : ℕ) → IsNoScan b from to behind m
