@@ -180,6 +180,28 @@ where
     device_in(alloc, taken)
 }
 
+// The device in a file that was taken to be read alone.
+fn held_in<F: Stored + Drop, A: Allocator + Copy>(
+    alloc: A,
+    taken: Taken<F>,
+) -> Result<FileDevice<FileDisk<F, A>, BlockDisk<FileBlocks<F, A>, A>>, DiskError>
+    ensures told { IfOk result (λ d. IsInPlain d (λ disk. are_blocks (plain.past_of disk).disk.content ≡ false)) }
+    ensures shown { IfOk result (λ d. IsInBlocks d (λ disk. show_blocks (first_read disk) ≡ true)) }
+    ensures read { IfOk result (λ d. IsInBlocks d (λ disk. IsRead disk)) }
+    ensures plan { IfOk result (λ d. IsInBlocks d (λ disk. plan_told (first_content blocks.past_of disk)
+        ≡ Some (disk_plan disk))) }
+    ensures sound { IfOk result (λ d. IsInPlain d (λ disk. plain.has_failed_of disk ≡ false)) }
+    ensures synced { IfOk result (λ d. IsSynced (past_by plain.past_of (disk_past blocks.past_of) d).disk) }
+    ensures failures { IfOk result (λ d. failures_by plain.failures_of (disk_failures blocks.failures_of) d ≡ 0) }
+{
+    let mut taken = taken;
+    if !shows_blocks(&mut taken.below, taken.sectors)? {
+        return Ok(FileDevice::Plain(plain_in(alloc, taken)?));
+    }
+    let below = blocks_in(alloc, taken)?;
+    Ok(FileDevice::Blocks(uncompared_in(alloc, below)?))
+}
+
 /// The device in the file at the path, whichever kind that is (`told`, `shown`), which is only read, and locked until
 /// the device is dropped: what is written to this stays in memory. A file of blocks tells this device, which holds what
 /// the file stood for (`read`). No block is compared with its digest before it is read. The refusals are those of
@@ -200,15 +222,32 @@ where
     ensures synced { IfOk result (λ d. IsSynced (past_by plain.past_of (disk_past blocks.past_of) d).disk) }
     ensures failures { IfOk result (λ d. failures_by plain.failures_of (disk_failures blocks.failures_of) d ≡ 0) }
 {
-    let mut taken = store_file::share(rt, &alloc, path)?;
-    if !shows_blocks(&mut taken.below, taken.sectors)? {
-        return Ok(FileDevice::Plain(plain_in(alloc, taken)?));
-    }
-    let below = blocks_in(alloc, taken)?;
-    Ok(FileDevice::Blocks(uncompared_in(alloc, below)?))
+    let taken = store_file::share(rt, &alloc, path)?;
+    held_in(alloc, taken)
 }
 
-/// The same, with no lock once the file is read.
+/// The same where the file may end within a sector, which is passed over then, as by [`store_file::share_whole`].
+pub fn hold_whole_device<R: Files, A: Allocator + Copy>(
+    rt: &R,
+    alloc: A,
+    path: &str,
+) -> Result<HeldDevice<R::File, A>, DiskError>
+where
+    R::File: StoreFile,
+    ensures told { IfOk result (λ d. IsInPlain d (λ disk. are_blocks (plain.past_of disk).disk.content ≡ false)) }
+    ensures shown { IfOk result (λ d. IsInBlocks d (λ disk. show_blocks (first_read disk) ≡ true)) }
+    ensures read { IfOk result (λ d. IsInBlocks d (λ disk. IsRead disk)) }
+    ensures plan { IfOk result (λ d. IsInBlocks d (λ disk. plan_told (first_content blocks.past_of disk)
+        ≡ Some (disk_plan disk))) }
+    ensures sound { IfOk result (λ d. IsInPlain d (λ disk. plain.has_failed_of disk ≡ false)) }
+    ensures synced { IfOk result (λ d. IsSynced (past_by plain.past_of (disk_past blocks.past_of) d).disk) }
+    ensures failures { IfOk result (λ d. failures_by plain.failures_of (disk_failures blocks.failures_of) d ≡ 0) }
+{
+    let taken = store_file::share_whole(rt, &alloc, path)?;
+    held_in(alloc, taken)
+}
+
+/// The device that [`hold_device`] gives, with no lock once the file is read.
 pub fn read_device<R: Files, A: Allocator + Copy>(
     rt: &R,
     alloc: A,

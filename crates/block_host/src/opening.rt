@@ -25,7 +25,8 @@ use store_file::{HostFile, OpenError, StoreFile, Stored, Troubled};
 pub type HostDisk<H, A> = BlockDisk<FileBlocks<HostFile<H>, A>, A>;
 
 /// Makes a file of so many blocks of zeros, all of them safe, under the name `PATH.new`: [`store_file::publish`] gives
-/// it its own, and [`store_file::discard`] removes it. The refusals are those of [`store_file::create`].
+/// it its own, and [`store_file::discard`] removes it. The refusals are those of [`store_file::create`]. Where it is
+/// refused, no file is left, if that can be removed (no clause says so).
 pub fn create<R: Files + AllocGlobal, A: Allocator + Copy>(
     rt: &R,
     alloc: A,
@@ -43,7 +44,13 @@ where
     ensures sound { IfOk result (λ b. has_failed_of b ≡ false) }
 {
     let disk = store_file::create(rt, alloc, path, blocks.saturating_mul(SECTORS))?;
-    Ok(FileBlocks::new(alloc, disk.into_below(), blocks as usize)?)
+    match FileBlocks::new(alloc, disk.into_below(), blocks as usize) {
+        Ok(file) => Ok(file),
+        Err(_) => {
+            let _ = store_file::discard(rt, path);
+            Err(OpenError::NoMemory)
+        }
+    }
 }
 
 /// Why there is no device in a file. A block that doesn't fit its digest is told by its first sector, and a failure of
@@ -117,7 +124,9 @@ where
     match block_file::create(alloc, below, plan) {
         Ok(disk) => Ok(disk),
         Err(refused) => {
-            let error = refused.error;
+            let Refused { file, error } = refused;
+            // Its lock goes with it.
+            drop(file);
             let _ = store_file::discard(rt, path);
             Err(DiskError::File(error))
         }

@@ -5,9 +5,10 @@ ghost use Rattle.sector_device.specs.Values.{zero_sector};
 ghost use Rattle.store_file.specs.FileDisk.{past_of, failures_of, has_failed_of};
 
 use crate::error::OpenError;
-use crate::host::{HostFile, StoreFile};
+use crate::host::{HostFile, StoreFile, is_same};
 use crate::mirror::FileDisk;
-use crate::names::{draft_of, is_there, sync_folder};
+use crate::names::{draft_of, found_at, is_there, sync_folder};
+use crate::trouble::Trouble;
 use sector_device::{SECTOR_SIZE, zero_sector};
 use std::alloc::Allocator;
 use std::fs::{OpenFile, OpenOptions, TryLockError};
@@ -22,51 +23,88 @@ pub const SECTORS_MAX: u64 = 1 << 23;
 // What the system says where a file system gives no second name: that it isn't permitted, or isn't supported.
 const NO_LINKS: [i32; 2] = [1, 95];
 
-// How often a new draft's lock is tried, and a draft that is empty is looked at.
-const TRIES: u32 = 10_000;
+// With what the draft of a store begins, once it isn't zeros any more: a plain one, and one of blocks.
+const PLAIN: &[u8] = b"NSFINDEX";
 
-// What the lock of a draft tells, which its maker holds.
-fn told_by_lock<H: StoreFile>(draft: &H) -> io::Result<OpenError> {
-    match draft.try_lock_shared() {
-        Ok(()) => Ok(OpenError::DraftExists),
-        Err(TryLockError::WouldBlock) => Ok(OpenError::DraftInUse),
-        Err(TryLockError::Error(error)) => Err(error),
-    }
+const BLOCKS: &[u8] = b"NSFBLOCK";
+
+// Whether the first bytes of a file are those of a draft.
+fn are_of_draft(first: &[u8]) -> bool {
+    first.starts_with(PLAIN) || first.starts_with(BLOCKS) || first.iter().all(|byte| *byte == 0)
 }
 
-// What a draft that is there tells. Its maker makes it, locks it, and then fills it: a look at the lock of an empty one
-// could be in its way.
-fn told_by<R: Files>(rt: &R, draft: &str) -> io::Result<OpenError>
+// Whether the file begins as a draft does: with a store, or with a sector of zeros, as far as it reaches.
+fn is_draft<H: StoreFile>(file: &H) -> io::Result<bool> {
+    let mut first = zero_sector();
+    let length = file.metadata()?.len().min(SECTOR_SIZE as u64) as usize;
+    let begun = &mut first[..length];
+    file.read_exact_at(begun, 0)?;
+    Ok(are_of_draft(begun))
+}
+
+// Whether the file has this name.
+fn is_named<R: Files>(rt: &R, file: &R::File, name: &str) -> io::Result<bool>
 where
     R::File: StoreFile,
 {
-    if !fs::symlink_metadata(rt, draft)?.is_file() {
-        return Ok(OpenError::DraftExists);
+    let found = file.metadata()?;
+    match found_at(rt, name)? {
+        Some(named) => Ok(is_same(&found, &named)),
+        None => Ok(false),
     }
-    let file = fs::open(rt, draft)?;
-    for _ in 0..TRIES {
-        if file.metadata()?.len() != 0 {
-            return told_by_lock(&file);
-        }
-    }
-    Ok(OpenError::DraftEmpty)
 }
 
-// Why no draft is made where one is there already.
-fn refused_by<R: Files>(rt: &R, draft: &str) -> OpenError
+// Locks the draft, where it has its name still: whoever has that lock makes the file, or removes it.
+fn own<R: Files>(rt: &R, file: &R::File, draft: &str) -> Result<(), OpenError>
 where
     R::File: StoreFile,
 {
-    match told_by(rt, draft) {
-        Ok(told) => told,
-        // Whoever had it open has given it its name, or removed it.
-        Err(error) if error.kind() == ErrorKind::NotFound => OpenError::DraftInUse,
-        Err(error) => OpenError::from(error),
+    match file.try_lock() {
+        Ok(()) => {}
+        Err(TryLockError::WouldBlock) => return Err(OpenError::DraftInUse),
+        Err(TryLockError::Error(error)) => return Err(OpenError::from(error)),
+    }
+    if is_named(rt, file, draft)? {
+        Ok(())
+    } else {
+        Err(OpenError::DraftInUse)
     }
 }
 
-// A new file of this name.
-fn begin<R: Files>(rt: &R, draft: &str) -> Result<R::File, OpenError>
+// The file that has the name of a draft, where it can be one that was left.
+fn open_left<R: Files>(rt: &R, draft: &str) -> Result<R::File, OpenError>
+where
+    R::File: StoreFile,
+{
+    match found_at(rt, draft)? {
+        Some(found) if found.is_file() => {}
+        Some(_) => return Err(OpenError::DraftExists),
+        // Whoever made it has given it its name, or removed it.
+        None => return Err(OpenError::DraftInUse),
+    }
+    match fs::open(rt, draft) {
+        Ok(file) => Ok(file),
+        Err(error) if error.kind() == ErrorKind::NotFound => Err(OpenError::DraftInUse),
+        Err(error) => Err(OpenError::from(error)),
+    }
+}
+
+// Removes a draft whose maker was cut off, or has let it go.
+fn remove_left<R: Files>(rt: &R, draft: &str, path: &str) -> Result<(), OpenError>
+where
+    R::File: StoreFile,
+{
+    let file = open_left(rt, draft)?;
+    own(rt, &file, draft)?;
+    if !is_draft(&file)? {
+        return Err(OpenError::DraftExists);
+    }
+    remove(rt, draft, path)?;
+    Ok(())
+}
+
+// A new file of this name. `DraftInUse` where something has it.
+fn new_file<R: Files>(rt: &R, draft: &str) -> Result<R::File, OpenError>
 where
     R::File: StoreFile,
 {
@@ -77,20 +115,23 @@ where
         .open(rt, draft);
     match opened {
         Ok(file) => Ok(file),
-        Err(error) if error.kind() == ErrorKind::AlreadyExists => Err(refused_by(rt, draft)),
+        Err(error) if error.kind() == ErrorKind::AlreadyExists => Err(OpenError::DraftInUse),
         Err(error) => Err(OpenError::from(error)),
     }
 }
 
-// Locks a new draft. Who looks at it has its lock for a moment.
-fn lock<H: StoreFile>(draft: &H) -> Result<(), TryLockError> {
-    for _ in 1..TRIES {
-        match draft.try_lock() {
-            Err(TryLockError::WouldBlock) => {}
-            tried => return tried,
+// The same, in place of a draft that was left.
+fn begin<R: Files>(rt: &R, draft: &str, path: &str) -> Result<R::File, OpenError>
+where
+    R::File: StoreFile,
+{
+    match new_file(rt, draft) {
+        Err(OpenError::DraftInUse) => {
+            remove_left(rt, draft, path)?;
+            new_file(rt, draft)
         }
+        begun => begun,
     }
-    draft.try_lock()
 }
 
 // Fills the file with this many sectors of zeros.
@@ -108,6 +149,7 @@ fn fill<R: Files, A: Allocator>(
     rt: &R,
     alloc: A,
     file: R::File,
+    draft: &str,
     path: &str,
     sectors: u64,
 ) -> Result<FileDisk<HostFile<R::File>, A>, OpenError>
@@ -120,7 +162,7 @@ where
     ensures sound { IfOk result (λ d. has_failed_of d ≡ false) }
 {
     let file = file.apart()?;
-    lock(&file)?;
+    own(rt, &file, draft)?;
     clear(&file, sectors)?;
     sync_folder(rt, path)?;
     let below = HostFile {
@@ -145,9 +187,11 @@ where
 /// [`publish`] gives it its own. So a crash meanwhile leaves no half of a store under it. Where it is refused, no file
 /// is left, if that can be removed.
 ///
-/// `Exists` where something has the name `PATH`. Where something has the name `PATH.new`, `DraftInUse` if another
-/// process makes it now, `DraftExists` if one was cut off as it did, and `DraftEmpty` where it is empty, which tells
-/// neither. `BadLength` for no sector or more than 2^23.
+/// A file of the name `PATH.new` that was left by a making that was cut off gives way: nobody has it open, and it begins
+/// with a store, or with zeros as far as it has a first sector. (That is only tested.)
+///
+/// `Exists` where something has the name `PATH`. `DraftInUse` where another process makes it now, and `DraftExists`
+/// where something else has the name `PATH.new`. `BadLength` for no sector or more than 2^23.
 pub fn create<R: Files + AllocGlobal, A: Allocator>(
     rt: &R,
     alloc: A,
@@ -169,11 +213,13 @@ where
         return Err(OpenError::Exists);
     }
     let draft = draft_of(rt.alloc(), path)?;
-    let file = begin(rt, draft.as_str())?;
-    match fill(rt, alloc, file, path, sectors) {
+    let file = begin(rt, draft.as_str(), path)?;
+    match fill(rt, alloc, file, draft.as_str(), path, sectors) {
         Ok(disk) => Ok(disk),
+        // It is another one's now.
+        Err(OpenError::DraftInUse) => Err(OpenError::DraftInUse),
         Err(error) => {
-            let _ = remove(rt, draft.as_str(), path);
+            let _ = remove_left(rt, draft.as_str(), path);
             Err(error)
         }
     }
@@ -200,23 +246,28 @@ fn link<R: Files>(rt: &R, draft: &str, path: &str) -> Result<(), OpenError> {
 /// Gives the file that was made for this path its name, in one step, which is safe then. A file that has the name stays
 /// as it is. (It is only tested.)
 ///
-/// `Exists` where something has this name.
+/// `Exists` where something has this name. `Made` where it has its name, and a call behind that was refused; the other
+/// refusals leave it the name of its draft alone.
 pub fn publish<R: Files + AllocGlobal>(rt: &R, path: &str) -> Result<(), OpenError>
 where
     R::File: StoreFile,
 {
     let draft = draft_of(rt.alloc(), path)?;
     link(rt, draft.as_str(), path)?;
-    remove(rt, draft.as_str(), path)?;
-    Ok(())
+    match remove(rt, draft.as_str(), path) {
+        Ok(()) => Ok(()),
+        Err(error) => Err(OpenError::Made(Trouble::of(error))),
+    }
 }
 
-/// Removes the file that was made for this path and is not to be published. (It is only tested.)
+/// Removes the file that was made for this path and is not to be published. The disk over it is to be let go before,
+/// with its lock. (It is only tested.)
+///
+/// `DraftInUse` where somebody has it open, and `DraftExists` where another file has its name.
 pub fn discard<R: Files + AllocGlobal>(rt: &R, path: &str) -> Result<(), OpenError>
 where
     R::File: StoreFile,
 {
     let draft = draft_of(rt.alloc(), path)?;
-    remove(rt, draft.as_str(), path)?;
-    Ok(())
+    remove_left(rt, draft.as_str(), path)
 }

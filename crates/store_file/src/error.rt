@@ -15,13 +15,13 @@ pub enum OpenError {
     Busy,
     /// It is there already.
     Exists,
-    /// The file under which it would be made, `PATH.new`, is there already, and nobody has it open.
+    /// Something has the name under which it would be made, `PATH.new`, that was not left by a making.
     DraftExists,
-    /// The file under which it would be made, `PATH.new`, is there already, and empty: it is left over, or another
-    /// process has begun to make it just now.
-    DraftEmpty,
     /// Another process, or another disk of this one, has `PATH.new` open, as one that makes it now.
     DraftInUse,
+    /// It is made, and has its name, but the system refused a call behind that: the name may not be safe, or that of its
+    /// draft is there too, which the next opening takes away.
+    Made(Trouble),
     /// The file system gives a file no second name, as a new one needs to get its own.
     NoSecondName,
     /// It is no regular file.
@@ -61,13 +61,16 @@ impl fmt::Display for OpenError {
             OpenError::Busy => f.write_str("another process has it open"),
             OpenError::Exists => f.write_str("it is there already"),
             OpenError::DraftExists => f.write_str(
-                "the file of this name with .new behind it, under which it would be made, is left over: remove it",
-            ),
-            OpenError::DraftEmpty => f.write_str(
-                "the file of this name with .new behind it is empty: remove it, if no other process makes it now",
+                "something that is no part of a store has this name with .new added, under which it would be made",
             ),
             OpenError::DraftInUse => {
                 f.write_str("another process makes it now, under this name with .new behind it")
+            }
+            OpenError::Made(trouble) => {
+                write!(
+                    f,
+                    "it is made, and whole, but its name may not be safe yet: {trouble}"
+                )
             }
             OpenError::NoSecondName => f.write_str(
                 "the file system gives a file no second name, as a new one needs to get its own",

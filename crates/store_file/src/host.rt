@@ -2,6 +2,7 @@
 ghost use Rattle.std.specs.Prelude.{◌≡◌, ◌+◌, ◌^◌, ◌<◌};
 
 use crate::backing::{Backing, Stored};
+use crate::names::{FileNumber, number_of};
 use crate::trouble::Trouble;
 use sector_device::SECTOR_SIZE;
 use std::fs::{File, Metadata, OpenFile, TryLockError};
@@ -67,6 +68,11 @@ pub struct HostFile<H = File> {
 }
 
 impl<H: StoreFile> HostFile<H> {
+    /// The number of the file, which it keeps whatever becomes of its name. (It is only tested.)
+    pub fn number(&self) -> io::Result<FileNumber> {
+        Ok(number_of(&self.file.metadata()?))
+    }
+
     // The file has a name, and its length.
     fn look(&self) -> Result<(), Trouble> {
         let found = self.file.metadata()?;

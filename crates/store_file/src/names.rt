@@ -14,8 +14,8 @@ pub(crate) fn draft_of<A: Allocator>(alloc: A, path: &str) -> Result<String<A>, 
     format!(in alloc; "{path}.new")
 }
 
-// What has this name, if anything.
-fn found_at<R: Files>(rt: &R, path: &str) -> io::Result<Option<Metadata>> {
+/// What has this name, if anything.
+pub(crate) fn found_at<R: Files>(rt: &R, path: &str) -> io::Result<Option<Metadata>> {
     match fs::symlink_metadata(rt, path) {
         Ok(found) => Ok(Some(found)),
         Err(error) if error.kind() == ErrorKind::NotFound => Ok(None),
@@ -30,13 +30,18 @@ pub struct FileNumber {
     file: u64,
 }
 
+/// The number of the file that was looked at.
+pub(crate) fn number_of(found: &Metadata) -> FileNumber {
+    FileNumber {
+        device: found.dev(),
+        file: found.ino(),
+    }
+}
+
 /// The number of what has this name, if anything has it. A file keeps its number when it is renamed.
 pub fn number_at<R: Files>(rt: &R, path: &str) -> io::Result<Option<FileNumber>> {
     match found_at(rt, path)? {
-        Some(found) => Ok(Some(FileNumber {
-            device: found.dev(),
-            file: found.ino(),
-        })),
+        Some(found) => Ok(Some(number_of(&found))),
         None => Ok(None),
     }
 }

@@ -76,6 +76,23 @@ where
     Ok(Taken { below, sectors })
 }
 
+// The file at the path, locked against those that would write it, and how many bytes it has.
+fn open_shared<R: Files, A: Allocator>(
+    rt: &R,
+    alloc: &A,
+    path: &str,
+) -> Result<(R::File, u64), OpenError>
+where
+    R::File: StoreFile,
+{
+    refuse_other(rt, path)?;
+    let file = fs::open(rt, path)?.apart()?;
+    file.try_lock_shared()?;
+    has_both(rt, alloc, &file, path)?;
+    let length = file.metadata()?.len();
+    Ok((file, length))
+}
+
 /// Takes the file at the path to read it alone: what is written to it never reaches it. Other processes may read it at
 /// the same time. The refusals are those of [`take`].
 pub fn share<R: Files, A: Allocator>(
@@ -87,11 +104,25 @@ where
     R::File: StoreFile,
     ensures sectors { IfOk result (λ t. (0 < t.sectors) × (t.sectors < SECTORS_MAX + 1)) }
 {
-    refuse_other(rt, path)?;
-    let file = fs::open(rt, path)?.apart()?;
-    file.try_lock_shared()?;
-    has_both(rt, alloc, &file, path)?;
-    let sectors = sectors_in(file.metadata()?.len())?;
+    let (file, length) = open_shared(rt, alloc, path)?;
+    let sectors = sectors_in(length)?;
+    let below = Held { file };
+    Ok(Taken { below, sectors })
+}
+
+/// The same where the file may end within a sector, which is passed over then: it is refused only where it has no whole
+/// one, or more than 2^23.
+pub fn share_whole<R: Files, A: Allocator>(
+    rt: &R,
+    alloc: &A,
+    path: &str,
+) -> Result<Taken<Held<R::File>>, OpenError>
+where
+    R::File: StoreFile,
+    ensures sectors { IfOk result (λ t. (0 < t.sectors) × (t.sectors < SECTORS_MAX + 1)) }
+{
+    let (file, length) = open_shared(rt, alloc, path)?;
+    let sectors = sectors_in(length - length % SECTOR_SIZE as u64)?;
     let below = Held { file };
     Ok(Taken { below, sectors })
 }

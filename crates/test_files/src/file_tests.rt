@@ -51,10 +51,7 @@ static DRAFT: [Scene; 5] = [
     (
         Nothing,
         Plain,
-        &[
-            ("kept", MAKE, "DraftExists"),
-            ("kept.new", Step::Act(Act::NameToo("kept")), "done"),
-        ],
+        &[("kept.new", Step::Act(Act::NameToo("kept")), "done")],
     ),
     (Copy("kept"), Plain, &[("kept", HOLD_SEVENS, "done")]),
     (
@@ -238,7 +235,7 @@ static DEEP: [Scene; 7] = [
     ),
     (
         Nothing,
-        Calls(b"kwwwwsdrd", 0),
+        Calls(b"kwwwwsdkrd", 0),
         &[("deep/made", MAKE, "done"), ("deep/made", DISCARD, "done")],
     ),
     (
@@ -268,20 +265,46 @@ static DEEP: [Scene; 7] = [
     ),
 ];
 
-// Somebody looks at a draft before it is locked. A draft that is empty is not locked by a look.
-static LOOKED_AT: [Scene; 5] = [
-    (Nothing, Calls(b"kkkkwwwwsf", 3), &[("left", MAKE, "done")]),
-    (Nothing, Calls(b"h", 0), &[("left", MAKE, "DraftExists")]),
-    (Nothing, Calls(b"rf", 0), &[("left", DISCARD, "done")]),
+// Somebody takes a draft before its maker has locked it: so it is not this one's to make. A draft that nobody has
+// open gives way, whether it is whole, cut, or empty; what is no draft stays.
+static LEFT: [Scene; 6] = [
+    (Nothing, Calls(b"k", 1), &[("left", MAKE, "DraftInUse")]),
+    (Nothing, Calls(b"krfkwwwwsf", 0), &[("left", MAKE, "done")]),
+    (Nothing, Calls(b"k", 1), &[("left", DISCARD, "DraftInUse")]),
     (
         Nothing,
-        Calls(b"", 0),
+        Calls(b"krfkwwwwsfkrf", 0),
         &[
-            ("left.new", Step::Act(Act::Put(0, 0)), "done"),
-            ("left", MAKE, "DraftEmpty"),
+            ("left.new", Step::Act(Act::Hold(0, 0, 1_024)), "done"),
+            ("left.new", Step::Act(Act::Put(0, 700)), "done"),
+            ("left", MAKE, "done"),
+            ("left", DISCARD, "done"),
         ],
     ),
-    (Nothing, Plain, &[("left.new", REMOVE, "done")]),
+    (
+        Nothing,
+        Calls(b"kk", 0),
+        &[
+            ("left.new", PUT, "done"),
+            ("left", MAKE, "DraftExists"),
+            ("left", DISCARD, "DraftExists"),
+            ("left.new", HOLD, "done"),
+            ("left.new", REMOVE, "done"),
+            ("left.new", Step::Act(Act::LinkTo("left")), "done"),
+            ("left", MAKE, "DraftExists"),
+            ("left.new", REMOVE, "done"),
+        ],
+    ),
+    (
+        Nothing,
+        Plain,
+        &[
+            ("left.new", Step::Act(Act::Put(0, 0)), "done"),
+            ("left", MAKE, "done"),
+            ("left", PUBLISH, "done"),
+            ("left", REMOVE, "done"),
+        ],
+    ),
 ];
 
 static MAKING: Scene = (
@@ -410,8 +433,8 @@ fn deep() -> &'static [Scene] {
     &DEEP
 }
 
-fn looked_at() -> &'static [Scene] {
-    &LOOKED_AT
+fn left() -> &'static [Scene] {
+    &LEFT
 }
 
 fn spoil() -> &'static [Scene] {
@@ -432,13 +455,13 @@ fn all() -> [&'static [Scene]; 10] {
         changed(),
         synced(),
         deep(),
-        looked_at(),
+        left(),
         spoil(),
         singles(),
     ]
 }
 
-// A draft is its maker's until it has its name, and a look at it is not in its maker's way. A file is locked while it
+// A draft is its maker's until it has its name, and gives way once nobody has it open. A file is locked while it
 // is open. What is no store is refused by name. A file that is harmed while it is open is told. Each write and name is
 // synced. Nothing is written behind a failure. That no second name is given is told. A call that fails leaves no draft,
 // and is told.

@@ -2,9 +2,9 @@ use Rattle.std.proofs.Common.{arith}
 use Rattle.std.proofs.lemmas.Result.{err_from_is_err_and}
 use Rattle.block_host.proofs.opening.create.Goals as goal
 
-pub returns : goal.returns
-returns g c =
-    let done = c.in_ok-new.ensures in
+pub returns-in-Ok : goal.returns-in-Ok
+returns-in-Ok g c =
+    let done = c.in-Ok.ensures in
     let fits = c.in_ok-disk.ensures.fits in
     record {
       zeros = done.zeros;
@@ -19,9 +19,4 @@ returns g c =
 pub returns-in_err-disk : goal.returns-in_err-disk
 returns-in_err-disk g c =
     rw (err_from_is_err_and c.from_residual.result c.from_residual.ensures.1).1
-    (record { zeros = tt; fits = tt; synced = tt; moment = tt; failures = tt; back = tt; sound = tt })
-
-pub returns-in_err-new : goal.returns-in_err-new
-returns-in_err-new g c =
-    rw (err_from_is_err_and c.from_residual-in_err-new.result c.from_residual-in_err-new.ensures.1).1
     (record { zeros = tt; fits = tt; synced = tt; moment = tt; failures = tt; back = tt; sound = tt })

@@ -11,9 +11,9 @@ returns-in_err-file g c =
     rw (err_from_is_err_and c.from_residual.result c.from_residual.ensures.1).1
     (record { zeros = tt; synced = tt; failures = tt; sound = tt })
 
-pub returns-in_err-lock : goal.returns-in_err-lock
-returns-in_err-lock g c =
-    rw (err_from_is_err_and c.from_residual-in_err-lock.result c.from_residual-in_err-lock.ensures.1).1
+pub returns-in_err-own : goal.returns-in_err-own
+returns-in_err-own g c =
+    rw (err_from_is_err_and c.from_residual-in_err-own.result c.from_residual-in_err-own.ensures.1).1
     (record { zeros = tt; synced = tt; failures = tt; sound = tt })
 
 pub returns-in_err-clear : goal.returns-in_err-clear

@@ -1,7 +1,7 @@
 use Rattle.std.proofs.Common.{◌∙◌, ap}
 use Rattle.std.proofs.lemmas.Result.{err_from_is_err_and}
 use Rattle.block_host.specs.Kinds.{show_blocks}
-use Rattle.block_host.proofs.kinds.hold_device.Goals as goal
+use Rattle.block_host.proofs.kinds.held_in.Goals as goal
 
 pub returns-then-not-branch : goal.returns-then-not-branch
 returns-then-not-branch g c =
@@ -33,14 +33,9 @@ returns g c =
       failures = done.failures;
     }
 
-pub returns-in_err-taken : goal.returns-in_err-taken
-returns-in_err-taken g c =
-    rw (err_from_is_err_and c.from_residual.result c.from_residual.ensures.1).1
-    (record { told = tt; shown = tt; read = tt; plan = tt; sound = tt; synced = tt; failures = tt })
-
 pub returns-in_err-shows_blocks : goal.returns-in_err-shows_blocks
 returns-in_err-shows_blocks g c =
-    rw (err_from_is_err_and c.from_residual-in_err-shows_blocks.result c.from_residual-in_err-shows_blocks.ensures.1).1
+    rw (err_from_is_err_and c.from_residual.result c.from_residual.ensures.1).1
     (record { told = tt; shown = tt; read = tt; plan = tt; sound = tt; synced = tt; failures = tt })
 
 pub returns-in_err-plain_in : goal.returns-in_err-plain_in
