@@ -1,5 +1,6 @@
 -- Where in a text of comma-separated fields a byte stands, and whether the text ends inside a quote.
-use Rattle.std.specs.Prelude.{Bool, false, fold, if◌then◌else◌, List, true, ℕ, ◌&&◌, ◌==◌, ◌||◌}
+use Rattle.std.specs.Prelude.{Bool, false, fold, if◌then◌else◌, List, min, nat_lt, not, true, ℕ, ◌&&◌, ◌+◌, ◌-◌, ◌==◌, ◌^◌, ◌||◌}
+use Rattle.program_quotes.specs.declared.source.TheConstants.{RECORD_MAX}
 use Rattle.program_quotes.specs.declared.source.Place.{Place}
 use Rattle.program_quotes.specs.declared.source.Place.TheVariants as at
 use Rattle.program_quotes.specs.declared.source.Watched.{Watched}
@@ -37,6 +38,21 @@ abbrev pub is_in_quote : Place → Bool
 is_in_quote at.InQuote = true
 is_in_quote other = false
 
+-- outside of quotes a record ends with a carriage return or a line feed
+abbrev pub ends_record : Place → ℕ → Bool
+ends_record place byte = not (is_in_quote place) && ((byte == 13) || (byte == 10))
+
+-- where the byte behind this one stands, and how many bytes a record has by then, if it has more than none
+abbrev pub counted_then : Place × ℕ → ℕ → Place × ℕ
+counted_then so_far byte = (
+  place_then so_far.0 byte,
+  if ends_record so_far.0 byte then 0 else min (so_far.1 + 1) (2 ^ 64 - 1),
+)
+
+-- how many bytes a record has behind these, of which it had so many before
+abbrev pub record_after : Place → ℕ → List ℕ → ℕ
+record_after place before bytes = (fold counted_then (place, before) bytes).1
+
 module _ {R : Type 0} where
   -- the source that is watched, where its next byte stands, and whether its last read gave none
   abbrev pub source_under : Watched R → R
@@ -51,6 +67,14 @@ module _ {R : Type 0} where
   -- how many bytes its reads gave
   abbrev pub passed_in : Watched R → ℕ
   passed_in w = w.passed
+
+  -- how many bytes the record has that is being read
+  abbrev pub record_in : Watched R → ℕ
+  record_in w = w.record
+
+  -- they are too many
+  abbrev pub is_too_long : Watched R → Bool
+  is_too_long w = nat_lt RECORD_MAX (record_in w)
 
   -- the text ended inside a quote
   abbrev pub is_cut_off : Watched R → Bool

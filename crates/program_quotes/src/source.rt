@@ -3,10 +3,13 @@ ghost use Rattle.std.specs.Prelude.{◌≡◌, ◌+◌, ◌-◌, ◌^◌, [], fa
 ghost use Rattle.std.specs.Io.{ReadsAtMost};
 ghost use Rattle.std.specs.Io.KnownBytes.{ReadConsumes};
 ghost use Rattle.program_quotes.specs.Quotes.{ends_field, is_in_quote, place_after, place_in_mark, place_of_first};
-ghost use Rattle.program_quotes.specs.Quotes.{place_outside, place_then};
+ghost use Rattle.program_quotes.specs.Quotes.{ends_record, place_outside, place_then, record_after};
 
 use std::io;
 use std::io::{ErrorKind, Read};
+
+/// The most bytes that a record of a text may have, its quotes and commas with it.
+pub const RECORD_MAX: u64 = 1 << 20;
 
 /// Where in a text the next byte stands.
 #[derive(Clone, Copy)]
@@ -116,6 +119,30 @@ impl Place {
         place
     }
 
+    // Whether a record ends with this byte.
+    fn ends_record(self, byte: u8) -> bool
+        ensures { result ≡ ends_record self byte }
+    {
+        !self.is_in_quote() && (byte == b'\r' || byte == b'\n')
+    }
+
+    // How long a record is behind these bytes, of which so many were read before.
+    fn record_behind(self, before: u64, bytes: &[u8]) -> u64
+        ensures { result ≡ record_after self before bytes.now }
+    {
+        let mut place = self;
+        let mut record = before;
+        for byte in bytes {
+            record = if place.ends_record(*byte) {
+                0
+            } else {
+                record.saturating_add(1)
+            };
+            place = place.then(*byte);
+        }
+        record
+    }
+
     fn is_in_quote(self) -> bool
         ensures { result ≡ is_in_quote self }
     {
@@ -133,10 +160,13 @@ pub struct Watched<R: Read> {
     has_ended: bool,
     // How many bytes the reads gave.
     passed: u64,
+    // How many of them stand behind the last line end outside of quotes.
+    record: u64,
 }
 
 impl<R: Read> Watched<R> {
-    ghost use Rattle.program_quotes.specs.Quotes.{has_ended, is_cut_off, passed_in, place_in, source_under};
+    ghost use Rattle.program_quotes.specs.Quotes.{has_ended, is_cut_off, is_too_long, passed_in, place_in};
+    ghost use Rattle.program_quotes.specs.Quotes.{record_in, source_under};
 
     /// The source, from which nothing is read yet.
     pub fn new(source: R) -> Self
@@ -144,12 +174,14 @@ impl<R: Read> Watched<R> {
         ensures start { place_in result ≡ Place.TextStart }
         ensures fresh { has_ended result ≡ false }
         ensures none { passed_in result ≡ 0 }
+        ensures record { record_in result ≡ 0 }
     {
         Watched {
             source,
             place: Place::TextStart,
             has_ended: false,
             passed: 0,
+            record: 0,
         }
     }
 
@@ -174,15 +206,24 @@ impl<R: Read> Watched<R> {
         self.has_ended && self.place.is_in_quote()
     }
 
+    /// Whether a record has more bytes than it may have, so far as it was read.
+    pub fn is_too_long(&self) -> bool
+        ensures { result ≡ is_too_long self.now }
+    {
+        self.record > RECORD_MAX
+    }
+
     // Notes the bytes of a read. An error where there is none inside a quote.
     fn note(&mut self, bytes: &[u8]) -> io::Result<()>
         ensures source { source_under self.new ≡ source_under self.old }
         ensures place { place_in self.new ≡ place_after (place_in self.old) bytes.now }
         ensures counted { passed_in self.new ≡ min (passed_in self.old + length bytes.now) (2 ^ 64 - 1) }
+        ensures record { record_in self.new ≡ record_after (place_in self.old) (record_in self.old) bytes.now }
         ensures none { OnErr result (bytes.now ≡ []) }
         ensures cut { OnErr result (is_cut_off self.new ≡ true) }
         ensures whole { OnOk result (is_cut_off self.new ≡ false) }
     {
+        self.record = self.place.record_behind(self.record, bytes);
         self.place = self.place.behind(bytes);
         self.has_ended = bytes.is_empty();
         self.passed = self.passed.saturating_add(bytes.len() as u64);
@@ -192,7 +233,8 @@ impl<R: Read> Watched<R> {
         Ok(())
     }
 
-    // Reads on. Where the text ends inside a quote, that is an error, each time.
+    // Reads on. Where the text ends inside a quote, that is an error, each time; and once a record is too long, no more
+    // is read.
     fn read_on(&mut self, buffer: &mut [u8]) -> io::Result<usize>
         ensures bound { ReadsAtMost result buffer.new }
         ensures bytes { ReadConsumes (R.remaining (source_under self.old)) (R.remaining (source_under self.new))
@@ -202,6 +244,9 @@ impl<R: Read> Watched<R> {
             ≡ min (passed_in self.old + length (take n buffer.new)) (2 ^ 64 - 1)) }
         ensures whole { OnOk result (is_cut_off self.new ≡ false) }
     {
+        if self.is_too_long() {
+            return Err(io::Error::from(ErrorKind::InvalidData));
+        }
         let count = match self.source.read(buffer) {
             Ok(count) => count,
             Err(error) => return Err(error),
