@@ -1,9 +1,10 @@
-// A store is stopped at each call of its device in turn, and crashes; and so are restarts behind it, at one call in 16.
+// A store is stopped at each call of its device in turn, and crashes; and so are the restarts after that, at each of
+// their calls.
 use crate::answer::Answer;
 use crate::claims::{claim, claim_at};
 use crate::contents::Contents;
 use crate::disk::Disk;
-use crate::jobs::{Job, Task, do_all};
+use crate::jobs::{Job, do_all};
 use crate::opened::open;
 use crate::store::{OpenStore, StoreMemory};
 use records::Error;
@@ -141,18 +142,16 @@ fn run_over<M: StoreMemory>(
     }
 }
 
-// What a run that was stopped had told to be safe, what a crash left of it, and whether the device has failed, and a
-// restart was stopped too.
+// What a run that was stopped had told to be safe, what a crash left of it, and whether the device has failed.
 #[derive(Clone, Copy)]
 struct Stopped {
     safe: u64,
     left: Contents,
     failed: bool,
-    again: bool,
 }
 
-// Opens the store that is left on the disk, once a restart was stopped at this of its calls, and another one. What is
-// held then, and whether a restart was stopped.
+// Opens the store that a crash left on the disk, once a restart was stopped at this of its calls, and the one after it
+// too. What is held then, and whether a restart was stopped.
 fn held_at_last<M: StoreMemory>(
     rt: &impl Abort,
     memory: M,
@@ -162,7 +161,7 @@ fn held_at_last<M: StoreMemory>(
 ) -> Result<(Contents, bool), Error> {
     for stops in 0..3u8 {
         let fails_at = if stops < 2 { call } else { 0 };
-        match memory.open(disk.crash(case.fate).failing(case.which, fails_at)) {
+        match memory.open(disk.failing(case.which, fails_at)) {
             Ok(store) => {
                 let held = store.contents();
                 drop(store.close());
@@ -170,7 +169,7 @@ fn held_at_last<M: StoreMemory>(
             }
             Err((error, stopped)) => {
                 claim(rt, error == Error::DeviceFailed, "a device that fails");
-                disk = stopped;
+                disk = stopped.crash(case.fate);
             }
         }
     }
@@ -178,16 +177,15 @@ fn held_at_last<M: StoreMemory>(
     rt.panic("each restart is stopped")
 }
 
-// The device fails at this of those calls, and then the restarts behind it at that of theirs. Just where it fails, that
-// is told.
-fn stop_at<M: StoreMemory>(
+// The device fails at this of those calls. Just where it fails, that is told. What the run told, and what a crash left.
+fn stop_run<M: StoreMemory>(
     rt: &impl Abort,
     memory: M,
     alloc: Global,
     whole: &Whole<'_>,
     case: Case,
-    (call, restart_call): (u64, u64),
-) -> Result<Stopped, Error> {
+    call: u64,
+) -> Result<(Told, Disk), Error> {
     let disk = Disk::formatted(alloc, 1, 4)?.failing(case.which, call);
     let (told, disk) = run_over(rt, memory, disk, whole);
     let failed = call <= disk.made();
@@ -197,17 +195,41 @@ fn stop_at<M: StoreMemory>(
         "that a failure is told at call",
         call,
     );
-    let (left, again) = held_at_last(rt, memory, disk, case, restart_call)?;
-    Ok(Stopped {
-        safe: told.safe,
-        left,
-        failed,
-        again,
-    })
+    Ok((told, disk.crash(case.fate)))
 }
 
-// Stops a run at this call, and the restarts behind it at one in so many of their calls. What they leave is the same.
+// The first call of a restart that fails, of those after a run that was stopped at this call.
+fn first_call(case: Case, call: u64) -> u64 {
+    call.checked_rem(case.every).unwrap_or(0).saturating_add(1)
+}
+
+// Stops the restarts of what is left on the disk at their calls, one in so many of them. Each leaves the same. How many
+// calls failed.
 fn stop_restarts<M: StoreMemory>(
+    rt: &impl Abort,
+    memory: M,
+    disk: &mut Disk,
+    case: Case,
+    call: u64,
+    left: &Contents,
+) -> Result<u64, Error> {
+    let mut restart_call = first_call(case, call);
+    for calls in 0..CALLS {
+        let (held, stopped) = held_at_last(rt, memory, disk.copy()?, case, restart_call)?;
+        claim_at(rt, held == *left, "the same after call", call);
+        if !stopped {
+            return Ok(calls);
+        }
+        restart_call = restart_call.saturating_add(case.every);
+    }
+    rt.panic("more calls of a restart")
+}
+
+// A restart makes more writes and syncs than these.
+const RESTART_CALLS: u64 = 30;
+
+// Stops a run at this call, and the restarts after it at theirs.
+fn stop_at<M: StoreMemory>(
     rt: &impl Abort,
     memory: M,
     alloc: Global,
@@ -215,17 +237,17 @@ fn stop_restarts<M: StoreMemory>(
     case: Case,
     call: u64,
 ) -> Result<Stopped, Error> {
-    let once = stop_at(rt, memory, alloc, whole, case, (call, 0))?;
-    let mut restart_call = call.checked_rem(case.every).unwrap_or(0).saturating_add(1);
-    for _ in 0..CALLS {
-        let stopped = stop_at(rt, memory, alloc, whole, case, (call, restart_call))?;
-        claim_at(rt, stopped.left == once.left, "the same behind call", call);
-        if !stopped.again {
-            return Ok(once);
-        }
-        restart_call = restart_call.saturating_add(case.every);
-    }
-    rt.panic("more calls of a restart")
+    let (told, mut disk) = stop_run(rt, memory, alloc, whole, case, call)?;
+    let (left, _) = held_at_last(rt, memory, disk.copy()?, case, 0)?;
+    let calls = stop_restarts(rt, memory, &mut disk, case, call, &left)?;
+    drop(disk);
+    let met = calls.saturating_mul(case.every);
+    claim_at(rt, met > RESTART_CALLS, "calls of a restart:", met);
+    Ok(Stopped {
+        safe: told.safe,
+        left,
+        failed: told.failed,
+    })
 }
 
 // What is left is what the store held as all was told to be safe, with all that was told to be so, and not less than a
@@ -248,7 +270,7 @@ fn stop_at_each<M: StoreMemory>(
 ) -> Result<(), Error> {
     let mut last: u64 = 0;
     for call in 1..CALLS {
-        let stopped = stop_restarts(rt, memory, alloc, whole, case, call)?;
+        let stopped = stop_at(rt, memory, alloc, whole, case, call)?;
         claim_at(
             rt,
             may_be_left(&whole.given, &stopped, last),
@@ -263,82 +285,68 @@ fn stop_at_each<M: StoreMemory>(
     rt.panic("more calls")
 }
 
-// The same of each case.
-fn stop_whole<M: StoreMemory>(
-    rt: &impl Abort,
-    memory: M,
-    alloc: Global,
-    whole: &Whole<'_>,
-    cases: &[Case],
-) -> Result<(), Error> {
-    claim(
-        rt,
-        whole.given.len() == 5,
-        "five moments at which all is safe",
-    );
-    for case in cases {
-        stop_at_each(rt, memory, alloc, whole, *case)?;
-    }
-    Ok(())
-}
-
 /// Stops a run of these requests so.
 pub(crate) fn stop_in_each<M: StoreMemory>(
     rt: &impl Abort,
     memory: M,
     alloc: Global,
     events: &[Event],
-    cases: &[Case],
+    case: Case,
 ) -> Result<(), Error> {
     let whole = whole_by_new(rt, memory, alloc, events)?;
-    let stopped = stop_whole(rt, memory, alloc, &whole, cases);
+    let moments = whole.given.len();
+    let stopped = stop_at_each(rt, memory, alloc, &whole, case);
     forget(whole);
+    claim(rt, moments == 5, "five moments at which all is safe");
     stopped
 }
 
-// Each write and sync fails in turn, with each fate of what is not synced, and behind it one in 16 of a restart.
-const STOPPED: &[Case] = &[
-    Case {
+// Each write and sync of a run fails in turn, and after each of them each write and sync of a restart, and again of the
+// one after it. This becomes then of what is not synced.
+fn stop_each(rt: &impl Abort, alloc: Global, fate: Fate) {
+    let case = Case {
         which: Which::WritesAndSyncs,
-        fate: Fate::Zero,
-        every: 16,
-    },
-    Case {
-        which: Which::WritesAndSyncs,
-        fate: Fate::New,
-        every: 16,
-    },
-    Case {
-        which: Which::WritesAndSyncs,
-        fate: Fate::Gate,
-        every: 16,
-    },
-    Case {
-        which: Which::WritesAndSyncs,
-        fate: Fate::Junk,
-        every: 16,
-    },
-];
+        fate,
+        every: 1,
+    };
+    do_all(rt, alloc, &[(SCRIPT, Job::Stop(case))]);
+}
 
-// Each call fails in turn, and behind it one in 16 of a restart.
-const FAILING: &[Case] = &[Case {
-    which: Which::All,
-    fate: Fate::Old,
-    every: 16,
-}];
+// What is left after each stop, and after stops of the restarts after it, is what was given as all was told to be safe;
+// failures are told, and no answer is wanting. A test has a minute, so each fate has one of its own.
 
-static STOPS: [Task; 1] = [(SCRIPT, Job::Stop(STOPPED))];
-
-static FAILURES: [Task; 1] = [(SCRIPT, Job::Stop(FAILING))];
-
-// What is left behind each stop, and behind stops of the restarts behind it, clauses say (`any_crash` of `run`, `stays`
-// of `restart`). Here it is seen that failures are told, and that no answer is wanting.
 #[test]
-fn each_stop(rt: HostRuntime) {
-    do_all(&rt, rt.alloc(), &STOPS);
+fn stops_that_leave_what_was_synced(rt: HostRuntime) {
+    stop_each(&rt, rt.alloc(), Fate::Old);
 }
 
 #[test]
+fn stops_that_leave_zeros(rt: HostRuntime) {
+    stop_each(&rt, rt.alloc(), Fate::Zero);
+}
+
+#[test]
+fn stops_that_leave_what_was_written(rt: HostRuntime) {
+    stop_each(&rt, rt.alloc(), Fate::New);
+}
+
+#[test]
+fn stops_that_leave_open_gates(rt: HostRuntime) {
+    stop_each(&rt, rt.alloc(), Fate::Gate);
+}
+
+#[test]
+fn stops_that_leave_junk(rt: HostRuntime) {
+    stop_each(&rt, rt.alloc(), Fate::Junk);
+}
+
+// Each call fails in turn, reads too, and after it one in 16 of a restart: over all of them each.
+#[test]
 fn each_failure(rt: HostRuntime) {
-    do_all(&rt, rt.alloc(), &FAILURES);
+    let case = Case {
+        which: Which::All,
+        fate: Fate::Old,
+        every: 16,
+    };
+    do_all(&rt, rt.alloc(), &[(SCRIPT, Job::Stop(case))]);
 }

@@ -43,6 +43,21 @@ fn holds<D: Device>(device: &mut D, edits: &[Edit<'_>], first: u64, end: u64) ->
     true
 }
 
+// Writes into each sector of a device what the same one of another holds, and syncs it.
+fn copy_all<D: Device, E: Device>(from: &mut D, to: &mut E) -> Result<(), Error> {
+    let mut sector = [0; SECTOR_SIZE];
+    for n in 0..from.sectors() {
+        let copied = is_read(from, n, &mut sector) && is_written(to, n, &sector);
+        if !copied {
+            return Err(Error::DeviceFailed);
+        }
+    }
+    match to.sync() {
+        Ok(()) => Ok(()),
+        Err(_) => Err(Error::DeviceFailed),
+    }
+}
+
 // A disk of zeros, with room to record its calls.
 fn zeros(alloc: Global, sectors: u64) -> Result<MemDisk<Global>, Error> {
     Ok(MemDisk::new(alloc, sectors, CALLS)?)
@@ -108,6 +123,18 @@ impl Disk {
             Ok(()) => Ok(self),
             Err(error) => {
                 drop(self);
+                Err(error)
+            }
+        }
+    }
+
+    /// Another disk whose sectors hold what those of this one do, all synced. No call of it fails.
+    pub fn copy(&mut self) -> Result<Disk, Error> {
+        let mut copy = Disk::bare(self.alloc, self.device.sectors())?;
+        match copy_all(&mut self.device, &mut copy.device) {
+            Ok(()) => Ok(copy),
+            Err(error) => {
+                drop(copy);
                 Err(error)
             }
         }

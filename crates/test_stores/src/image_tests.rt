@@ -200,12 +200,52 @@ static PASSED: [(u32, &str, u64); 4] = [
     (2 * STEPS, CHANGED, 3),
 ];
 
-/// Counts the writes of images.
+// A group takes seven writes of its body, a sync, a write of its gate, and a sync.
+const GROUP_CALLS: u64 = 10;
+
+// How many groups so many flushes write, where what waits fills one group and some of another.
+static GROUPS: [(u32, u64); 3] = [(1, 1), (2, 2), (3, 2)];
+
+// The records of two transactions wait, and then so many flushes are made.
+fn calls_of_flushes<M: StoreMemory>(
+    rt: &impl Abort,
+    memory: M,
+    alloc: Global,
+    flushes: u32,
+) -> Result<u64, Error> {
+    let scripts = [
+        (1, "begin\n"),
+        (60, "insert 1 =a =\n"),
+        (1, "commit 1\nbegin\n"),
+        (60, "insert 2 =a =\n"),
+        (1, "commit 2\n"),
+        (flushes, "flush\n"),
+    ];
+    calls_of(rt, memory, alloc, &scripts)
+}
+
+// Counts the calls of the device that groups take.
+fn count_calls_of_groups<M: StoreMemory>(
+    rt: &impl Abort,
+    memory: M,
+    alloc: Global,
+) -> Result<(), Error> {
+    let before = calls_of_flushes(rt, memory, alloc, 0)?;
+    for (flushes, groups) in &GROUPS {
+        let all = calls_of_flushes(rt, memory, alloc, *flushes)?;
+        let is_so = all == before.saturating_add(groups.saturating_mul(GROUP_CALLS));
+        claim_at(rt, is_so, "calls of groups:", all.saturating_sub(before));
+    }
+    Ok(())
+}
+
+/// Counts the writes of images, and the calls of groups.
 pub(crate) fn count_writes<M: StoreMemory>(
     rt: &impl Abort,
     memory: M,
     alloc: Global,
 ) -> Result<(), Error> {
+    count_calls_of_groups(rt, memory, alloc)?;
     let whole = calls_of_image(rt, memory, alloc, (0, ""))?;
     for (steps, change, passed) in &PASSED {
         let calls = calls_of_image(rt, memory, alloc, (*steps, *change))?;

@@ -3,6 +3,7 @@ use crate::claims::claim;
 use crate::store::StoreMemory;
 use crate::{
     build_tests, byte_tests, crash_tests, damage_tests, image_tests, memory_tests, migration_tests,
+    parts_tests,
 };
 use records::Error;
 use restart::Event;
@@ -29,14 +30,18 @@ pub(crate) enum Job<'a> {
     CountWrites,
     /// What the requests leave is compared byte by byte.
     CompareBytes(byte_tests::Layout),
-    /// A run is stopped at each call of each case.
-    Stop(&'a [crash_tests::Case]),
+    /// A run is stopped at each call of the case.
+    Stop(crash_tests::Case),
     /// An image becomes current.
     Flip(image_tests::Flip<'a>),
     /// Each allocation is refused in turn.
     Refuse(memory_tests::Wanted),
     /// A moved store goes on.
     GoOn,
+    /// The store is taken apart: the numbers of its last record and of the last that is safe, or a refusal.
+    TakeApart(Result<(u64, u64), Error>),
+    /// An index is built to its end, by the record of this number, or not.
+    BuildToEnd(Result<u64, Error>),
 }
 
 fn do_over<M: StoreMemory>(
@@ -56,10 +61,12 @@ fn do_over<M: StoreMemory>(
         Job::CompareBytes(layout) => {
             byte_tests::run_and_compare(rt, memory, alloc, events, layout)
         }
-        Job::Stop(cases) => crash_tests::stop_in_each(rt, memory, alloc, events, cases),
+        Job::Stop(case) => crash_tests::stop_in_each(rt, memory, alloc, events, case),
         Job::Flip(flip) => image_tests::check_flip(rt, memory, alloc, events, &flip),
         Job::Refuse(wanted) => memory_tests::refuse_each(rt, memory, alloc, events, wanted),
         Job::GoOn => migration_tests::go_on(rt, memory, alloc, events),
+        Job::TakeApart(wanted) => parts_tests::take_apart(rt, memory, alloc, events, wanted),
+        Job::BuildToEnd(wanted) => parts_tests::build_to_end(rt, memory, alloc, events, wanted),
     }
 }
 
@@ -92,15 +99,17 @@ pub(crate) fn do_all(rt: &impl Abort, alloc: Global, tasks: &[Task]) {
     }
 }
 
-static SMALL: [&[Task]; 4] = [
+static SMALL: [&[Task]; 5] = [
     byte_tests::TASKS,
     damage_tests::TASKS,
     image_tests::TASKS,
     migration_tests::TASKS,
+    parts_tests::TASKS,
 ];
 
-// A store byte by byte; stores that were harmed; images that become current, and pass over pages; and stores of version
-// 1: they are moved and go on, or aren't moved, or are hindered.
+// A store byte by byte; stores that were harmed; images that become current, and pass over pages, and the device calls
+// of groups; stores of version 1: they are moved and go on, or aren't moved, or are hindered; and stores that are built
+// to the end, and taken apart.
 #[test]
 fn bytes_harms_images_and_moves(rt: HostRuntime) {
     for tasks in &SMALL {

@@ -35,4 +35,6 @@ mod migration_tests;
 #[cfg(test)]
 mod opened;
 #[cfg(test)]
+mod parts_tests;
+#[cfg(test)]
 mod store;

@@ -247,6 +247,41 @@ static NOT_MOVED: [(&str, &[Edit<'_>], u64, MigrateError); 5] = [
     ),
 ];
 
+// A group of a creation, and of a drop of the index, which version 1 has not.
+const DROP: &[u8] = b"\0\x02\0\x22\
+    \0\0\0\0\0\0\0\x01\0\0\0\0\0\0\0\0\x09\
+    \0\0\0\0\0\0\0\x02\0\0\0\0\0\0\0\0\x0e";
+
+// The sectors of a store whose fields are harmed, and the one at which it is damaged.
+static HARMED: [(&[Edit<'_>], u64); 18] = [
+    (&[SUPERBLOCK_1, (0, 24, b"\x01")], 0),
+    (&[SUPERBLOCK_1, (0, 15, b"\0")], 0),
+    (&[SUPERBLOCK_1, (2, 0, b"\x03")], 2),
+    (&[SUPERBLOCK_1, (2, 1, b"\x01")], 2),
+    (&[SUPERBLOCK_1, (2, 45, b"\x01")], 2),
+    (&[SUPERBLOCK_1, (3, 39, b"\x01")], 3),
+    (&[SUPERBLOCK_1, (3, 9, b"\x01")], 3),
+    (&[SUPERBLOCK_1, (3, 7, b"\x01\0\x01")], 4),
+    (&[SUPERBLOCK_1, (516, 0, b"\x01")], 516),
+    (&[SUPERBLOCK_1, (516, 64, b"\x02")], 516),
+    (&[SUPERBLOCK_1, (516, 64, b"\x01\x19")], 516),
+    (&[SUPERBLOCK_1, (516, 64, b"\x01"), (516, 90, b"\x26")], 516),
+    (&[SUPERBLOCK_1, (523, 0, b"\x02")], 516),
+    (&[SUPERBLOCK_1, (2, 44, b"\x01")], 524),
+    (&[SUPERBLOCK_1, (528, 0, b"\xa5")], 528),
+    (&[SUPERBLOCK_1, (528, 0, b"\xa5"), (529, 0, DROP)], 528),
+    (
+        &[
+            SUPERBLOCK_1,
+            (2, 40, b"\x01"),
+            (528, 0, b"\xa5"),
+            (529, 0, GROUP),
+        ],
+        528,
+    ),
+    (&[SUPERBLOCK_1, (536, 0, b"\xa5")], 536),
+];
+
 // Why a store with these sectors isn't moved to a disk of so many, if it isn't.
 fn why_not_moved<M: StoreMemory>(
     memory: M,
@@ -268,6 +303,11 @@ pub(crate) fn keep_each<M: StoreMemory>(
     for (name, edits, sectors, wanted) in &NOT_MOVED {
         let why = why_not_moved(memory, alloc, *edits, *sectors)?;
         claim(rt, why == Some(*wanted), *name);
+    }
+    for (edits, sector) in &HARMED {
+        let why = why_not_moved(memory, alloc, *edits, 0)?;
+        let wanted = MigrateError::Old(Error::Damaged { sector: *sector });
+        claim_at(rt, why == Some(wanted), "damage at sector", *sector);
     }
     let refused = why_not_open(memory, old_disk(alloc, LOGGED)?);
     claim(rt, refused == Some(Error::OldVersion), "an old version");

@@ -31,6 +31,25 @@ fn replies_to<D: Device, A: Allocator + Copy>(
     engine.run(events)
 }
 
+// The number of the record that ended the build.
+fn completed<D: Device, A: Allocator + Copy>(engine: &mut Engine<D, A>) -> Result<u64, Error> {
+    engine.build_to_end()
+}
+
+// The number of the core's last record, that of the last that is safe, and the device.
+fn parted<D: Device, A: Allocator + Copy>(
+    engine: Engine<D, A>,
+) -> Result<(u64, u64, D), (Error, D)> {
+    match engine.into_parts() {
+        Ok((core, writer)) => {
+            let last = core.last();
+            drop(core);
+            Ok((last, writer.synced(), writer.into_device()))
+        }
+        Err((error, engine)) => Err((error, engine.into_device())),
+    }
+}
+
 fn core_of<D: Device, A: Allocator + Copy>(engine: &Engine<D, A>) -> &Core<A> {
     engine.core()
 }
@@ -68,6 +87,12 @@ pub trait OpenStore {
 
     /// What it holds now.
     fn contents(&self) -> Contents;
+
+    /// Builds its index to the end: the number of the record that ended it.
+    fn build_to_end(&mut self) -> Result<u64, Error>;
+
+    /// Takes it apart: the number of its core's last record, up to which number all is safe, and the disk.
+    fn into_parts(self) -> Result<(u64, u64, Disk), (Error, Disk)>;
 
     /// Gives up all but the disk.
     fn close(self) -> Disk;
@@ -114,6 +139,18 @@ impl<A: Allocator + Copy> OpenStore for Store<A> {
 
     fn contents(&self) -> Contents {
         contents_of(core_of(&self.engine))
+    }
+
+    fn build_to_end(&mut self) -> Result<u64, Error> {
+        completed(&mut self.engine)
+    }
+
+    fn into_parts(self) -> Result<(u64, u64, Disk), (Error, Disk)> {
+        let Store { engine, alloc } = self;
+        match parted(engine) {
+            Ok((last, synced, device)) => Ok((last, synced, Disk { device, alloc })),
+            Err((error, device)) => Err((error, Disk { device, alloc })),
+        }
     }
 
     fn close(self) -> Disk {

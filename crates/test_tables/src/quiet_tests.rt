@@ -4,6 +4,7 @@ ghost use Rattle.std.specs.Prelude.{◌≡◌};
 
 use crate::jobs::{Job, do_job};
 use crate::memory_tests::take_page;
+use crate::quiet_reads::{use_reads, use_runs};
 use crate::tree_tests::{found, put, put_in_leaf, put_quietly, take};
 use crate::values::{Memory, RID, claim, claim_at, pair_of, row_of};
 use board::{Board, BuildView, FlushView, View};
@@ -339,7 +340,7 @@ fn scan_row<A: Allocator + Copy>(
 ) -> Result<(), Error> {
     let mut heap = Heap::new(within, 1)?;
     set_row(rt, &mut heap, RID, Some(row));
-    let taken = take_page(rt, &heap, scan);
+    let taken = take_page(rt, &heap, scan, 0);
     forget(heap);
     taken
 }
@@ -365,7 +366,7 @@ fn begun<A: Allocator + Copy>(core: &mut Core<A>) -> Result<Txn, Error> {
     core.begin()
 }
 
-fn insert<A: Allocator + Copy>(
+pub(crate) fn insert<A: Allocator + Copy>(
     rt: &impl Abort,
     core: &mut Core<A>,
     txn: Txn,
@@ -387,7 +388,7 @@ fn is_indexed<A: Allocator + Copy>(core: &Core<A>) -> bool {
     core.life().is_indexed() && core.attempts() == 0
 }
 
-fn new_core<A: Allocator + Copy>(within: A) -> Result<Core<A>, Error> {
+pub(crate) fn new_core<A: Allocator + Copy>(within: A) -> Result<Core<A>, Error> {
     let geometry = Geometry::new(1, 64, 4)?;
     Core::new(within, geometry, 0)
 }
@@ -452,6 +453,28 @@ fn use_disk<A: Allocator + Copy>(rt: &impl Abort, memory: &Memory, within: A) ->
     Ok(())
 }
 
+// Flusher and builder read the stop flag, and another view learns what both have told.
+fn settle_views<A: Allocator>(
+    rt: &impl Abort,
+    board: &Board<A>,
+    flush: &mut FlushView,
+    build: &mut BuildView,
+    view: &mut View,
+)
+    requires flush { flush.old.board ≡ board.now }
+    requires build { build.old.board ≡ board.now }
+    requires view { view.old.board ≡ board.now }
+{
+    let mut other = board.another(view);
+    let are_stopped = board.stopped_flusher(flush) && board.stopped_builder(build);
+    board.settle(flush, &mut other);
+    board.settle_progress(build, &mut other);
+    let is_known = board.horizon(&mut other) == 7 && board.progress(&mut other) == 3;
+    claim(rt, are_stopped, "a stop flag of the loops");
+    claim(rt, is_known, "what another view has learned");
+    drop(other);
+}
+
 fn use_views<A: Allocator>(
     rt: &impl Abort,
     board: &Board<A>,
@@ -474,6 +497,7 @@ fn use_views<A: Allocator>(
     claim(rt, is_raised, "the builder's progress");
     claim(rt, has_failed, "a failed flag");
     claim(rt, board.stopped(view), "a stop flag");
+    settle_views(rt, board, flush, build, view);
 }
 
 // What threads tell one another on a board.
@@ -502,6 +526,8 @@ fn use_part<A: Allocator + Copy>(
         5 => use_core(rt, memory, within, &row),
         6 => use_disk(rt, memory, within),
         8 => use_leaves(rt, memory, within),
+        9 => use_runs(rt, memory, within),
+        10 => use_reads(rt, memory, within),
         _ => use_board(rt, memory, within),
     }
 }
@@ -540,7 +566,7 @@ pub(crate) fn begin_without<A: Allocator + Copy>(memory: &Memory, within: A) -> 
 // The count is not blind: a call that wants memory is refused, and counted.
 #[test]
 fn these_calls_make_no_call_of_the_allocator(rt: HostRuntime) {
-    for part in 0..9 {
+    for part in 0..11 {
         look_at_part(&rt, rt.alloc(), part);
     }
     let (begun, refused) = do_job(&rt, rt.alloc(), u64::MAX, Job::BeginWithout);

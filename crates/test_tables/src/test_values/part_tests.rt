@@ -1,6 +1,6 @@
 //! Tests of the crate `store_image_parts`.
 use model::Life;
-use records::{Body, Error, Key, Mark, Pair, Rid, Row, Rows, Txn};
+use records::{BODY_MAX, Body, Error, KEY_MAX, Key, Mark, Pair, Rid, Row, Rows, Txn};
 use sector_device::SECTOR_SIZE;
 use store_image_parts::{
     Head, Header, UndoItem, spell_entry, spell_head, spell_header, spell_item, spell_row,
@@ -101,9 +101,50 @@ fn is_head_of(number: u64) -> bool {
     }
 }
 
-/// Whether an entry, a row, none, a transaction's head, one of its changes, and the header of an image are spelled so.
+const LETTERS: &[u8] = &[b'x'; 70];
+
+// The row whose key and body have so many letters.
+fn row_of(key: usize, body: usize) -> Result<Row, Error> {
+    let key = LETTERS.get(..key).ok_or(Error::KeyTooLong)?;
+    let body = LETTERS.get(..body).ok_or(Error::BodyTooLong)?;
+    Ok(Row {
+        key: Key::new(key)?,
+        body: Body::new(body)?,
+    })
+}
+
+// Whether the row is spelled so: a 1, the key and the body, each after its length, and zeros after each.
+fn is_row_of(key: usize, body: usize) -> Result<bool, Error> {
+    let row = row_of(key, body)?;
+    let lengths = [1, key as u8, body as u8];
+    let pieces: [(usize, &[u8]); 4] = [
+        (0, &lengths[..2]),
+        (2, row.key.as_slice()),
+        (58, &lengths[2..]),
+        (59, row.body.as_slice()),
+    ];
+    Ok(spell_row(&Some(row)) == bytes_of::<128>(&pieces))
+}
+
+// Whether a row of each length is spelled so, and a longer key and a longer body are refused.
+fn are_rows_of_each_length() -> Result<bool, Error> {
+    for key in 0..=KEY_MAX {
+        for body in 0..=BODY_MAX {
+            if !is_row_of(key, body)? {
+                return Ok(false);
+            }
+        }
+    }
+    let is_key = Key::new(&LETTERS[..KEY_MAX + 1]) == Err(Error::KeyTooLong);
+    let is_body = Body::new(&LETTERS[..BODY_MAX + 1]) == Err(Error::BodyTooLong);
+    Ok(is_key && is_body)
+}
+
+/// Whether an entry, a row, none, a transaction's head, one of its changes, and the header of an image are spelled so; and
+/// rows of each length.
 pub(crate) fn are_spelled() -> Result<bool, Error> {
     let (pair, row) = (pair()?, row()?);
     let are_rows = is_slot(&Some(row), &SLOT) && is_slot(&None, &[]) && is_item_of(row);
+    let are_rows = are_rows && are_rows_of_each_length()?;
     Ok(are_rows && is_entry(&(pair, Mark::Marked)) && is_header_of(Some(pair)) && is_head_of(258))
 }
