@@ -226,7 +226,7 @@ fn stop_restarts<M: StoreMemory>(
 }
 
 // A restart makes more writes and syncs than these.
-const RESTART_CALLS: u64 = 30;
+const RESTART_CALLS: u64 = 20;
 
 // Stops a run at this call, and the restarts after it at theirs.
 fn stop_at<M: StoreMemory>(

@@ -215,9 +215,9 @@ fn calls_of_flushes<M: StoreMemory>(
 ) -> Result<u64, Error> {
     let scripts = [
         (1, "begin\n"),
-        (60, "insert 1 =a =\n"),
+        (60, "insert 1 =a =12345678\n"),
         (1, "commit 1\nbegin\n"),
-        (60, "insert 2 =a =\n"),
+        (60, "insert 2 =a =12345678\n"),
         (1, "commit 2\n"),
         (flushes, "flush\n"),
     ];

@@ -3,6 +3,7 @@ ghost use Rattle.std.specs.Prelude.{◌≡◌};
 
 use crate::calls::Calls;
 use crate::chairs::Player;
+use crate::waits::Waits;
 use model::Life;
 use nsf_core::Ticket;
 use records::{Body, Error, Key, Rid, Row, Txn};
@@ -19,21 +20,28 @@ pub(crate) struct Numbered<B: Group, A: Memory> {
 
 /// A seat at its store.
 #[derive(Drop)]
-pub(crate) struct AtSeat<'a, B: Group, A: Memory, R> {
+pub(crate) struct AtSeat<'a, B: Group, A: Memory, R, W> {
     pub(crate) rt: &'a R,
     pub(crate) shared: &'a Shared<B, A>,
+    pub(crate) waits: &'a W,
     pub(crate) at: &'a mut Numbered<B, A>,
 }
 
 /// Lets it play at the seat: the one place where a seat of a store is handed to what is generic over its calls, since
 /// each such place costs much to prove.
-pub(crate) fn let_play<B: Group, A: Memory, P: Player, R: Wait>(
+pub(crate) fn let_play<B: Group, A: Memory, P: Player, R: Wait, W: Waits<B, A>>(
     rt: &R,
     shared: &Shared<B, A>,
+    waits: &W,
     at: &mut Numbered<B, A>,
     player: &mut P,
 ) {
-    let mut seat = AtSeat { rt, shared, at };
+    let mut seat = AtSeat {
+        rt,
+        shared,
+        waits,
+        at,
+    };
     player.play(&mut seat);
 }
 
@@ -45,7 +53,7 @@ fn refused_by(refusal: Refusal) -> Error {
     }
 }
 
-impl<B: Group, A: Memory, R: Wait> Calls for AtSeat<'_, B, A, R> {
+impl<B: Group, A: Memory, R: Wait, W: Waits<B, A>> Calls for AtSeat<'_, B, A, R, W> {
     fn begin(&mut self) -> Result<Txn, Error> {
         let at = &mut *self.at;
         self.shared.begin(self.rt, &mut at.seat)
@@ -108,11 +116,7 @@ impl<B: Group, A: Memory, R: Wait> Calls for AtSeat<'_, B, A, R> {
     }
 
     fn await_ack(&mut self, ticket: Ticket) -> Result<(), Error> {
-        let at = &mut *self.at;
-        match self.shared.await_ack(self.rt, &mut at.seat, ticket) {
-            Ok(_) => Ok(()),
-            Err(error) => Err(error),
-        }
+        self.waits.wait(self.rt, self.shared, self.at, ticket)
     }
 
     fn create_index(&mut self) -> Result<Ticket, Error> {
@@ -142,6 +146,16 @@ impl<B: Group, A: Memory, R: Wait> Calls for AtSeat<'_, B, A, R> {
     fn life(&mut self) -> Life {
         let at = &mut *self.at;
         self.shared.life(self.rt, &mut at.seat)
+    }
+
+    fn marked(&mut self) -> usize {
+        let at = &mut *self.at;
+        self.shared.counts(self.rt, &mut at.seat).marked
+    }
+
+    fn has_failed(&mut self) -> bool {
+        let at = &mut *self.at;
+        self.shared.another_view(&mut at.seat).failed(self.shared)
     }
 
     fn is_acked(&mut self, ticket: Ticket) -> bool {

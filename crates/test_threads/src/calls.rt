@@ -56,6 +56,12 @@ pub(crate) trait Calls {
     /// How far the index is.
     fn life(&mut self) -> Life;
 
+    /// How many entries are marked.
+    fn marked(&mut self) -> usize;
+
+    /// Whether the device has failed.
+    fn has_failed(&mut self) -> bool;
+
     /// Whether the record of a ticket is safe.
     fn is_acked(&mut self, ticket: Ticket) -> bool;
 

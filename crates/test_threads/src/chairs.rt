@@ -1,5 +1,6 @@
 //! Seats, and who plays at them.
-ghost use Rattle.std.specs.Prelude.{◌≡◌, []};
+ghost use Rattle.std.specs.Prelude.{◌≡◌, [], IfOk, IsTrue};
+ghost use Rattle.threads_lifetime.specs.Gathered.{AreAllSeats};
 ghost use Rattle.shared.specs.Seats.{AreNewSeats};
 
 use crate::at_seat::Numbered;
@@ -60,5 +61,36 @@ pub(crate) fn chairs_of<B: Group, P: Drop>(
             drop(chairs);
             Err(error)
         }
+    }
+}
+
+// Whether this is the next number, where all before were.
+fn is_next(ordered: bool, number: usize, next: usize) -> bool
+    ensures { IsTrue result → IsTrue ordered × (number ≡ next) }
+{
+    ordered && number == next
+}
+
+/// The seats of all, and who played there. `AllocError` also where they are not so many, each at its number.
+pub(crate) fn parted<B: Group, P: Drop>(
+    alloc: Global,
+    chairs: Vec<Chair<B, P>>,
+    count: usize,
+) -> Result<(Vec<Seat<B, Global, Kept>>, Vec<P>), AllocError>
+    ensures { IfOk result (λ r. AreAllSeats count r.0.items) }
+{
+    let mut seats = Vec::with_capacity(alloc, count)?;
+    let mut players = Vec::with_capacity(alloc, count)?;
+    let mut ordered = true;
+    for chair in chairs {
+        let Chair { at, player } = chair;
+        ordered = is_next(ordered, at.number, seats.len());
+        seats.push(at.seat)?;
+        players.push(player)?;
+    }
+    if ordered && seats.len() == count {
+        Ok((seats, players))
+    } else {
+        Err(AllocError)
     }
 }

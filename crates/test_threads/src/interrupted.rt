@@ -8,6 +8,7 @@ use crate::chairs::Player;
 use crate::keyed::set_up;
 use crate::soloist::take_last;
 use crate::store::{open, start};
+use crate::waits::ByFlusher;
 use records::Error;
 use sector_device::Device;
 use shared::{BuildPart, Group, Kept, Seat, Shared};
@@ -47,7 +48,7 @@ fn index<B: Group, R: Wait>(
         creates,
         done: false,
     };
-    let_play(rt, shared, at, &mut indexing);
+    let_play(rt, shared, &ByFlusher, at, &mut indexing);
     indexing.done
 }
 

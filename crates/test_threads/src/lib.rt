@@ -21,6 +21,8 @@ mod claims;
 #[cfg(test)]
 mod drop_tests;
 #[cfg(test)]
+mod ends;
+#[cfg(test)]
 mod found;
 #[cfg(test)]
 mod help;
@@ -54,3 +56,5 @@ mod soloist;
 mod stage;
 #[cfg(test)]
 mod store;
+#[cfg(test)]
+mod waits;

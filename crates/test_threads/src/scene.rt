@@ -1,9 +1,10 @@
-//! Four writers beside the loops, to the end of all threads.
-use crate::found::{marked_behind_crash, with_pages};
-use crate::players::{Left, play_beside};
-use crate::seats::{WRITERS, Writer, writers_on};
+//! Four writers beside the loops, on the store of an engine that served, to the end of all threads.
+use crate::ends::{Seen, look};
+use crate::found::{Disk, failing, served};
+use crate::players::{Left, Writes, play_beside};
+use crate::seats::{Told, WRITERS, Writer, gather, writers_on};
 use crate::stage::{HeldDisk, Stage};
-use crate::store::open;
+use crate::store::Finished;
 use records::Error;
 use sector_device::Device;
 use std::alloc::Global;
@@ -11,36 +12,88 @@ use std::mem::forget;
 use std::rt::Clock;
 use std::sync::Wait;
 use std::thread::Threads;
+use threads_lifetime::{Closed, OpenError, OpenStore, open_engine};
 
-// Lets the writers play on the device.
-fn play_on<'a, D: Device + Send + Drop, R: Threads + Wait + Clock + Sync>(
+/// What was seen: what the writers were told; how the flusher ended; and the end of all threads.
+#[derive(Drop)]
+pub struct Played {
+    pub told: Told,
+    pub flusher: Option<Error>,
+    pub seen: Seen,
+}
+
+// The store of an engine that served, with a seat for each writer.
+fn open<D: Device + Drop>(alloc: Global, device: D) -> Result<OpenStore<D>, Error> {
+    match open_engine(alloc, served(alloc, device)?, usize::from(WRITERS)) {
+        Ok(store) => Ok(store),
+        Err((refused, engine)) => {
+            forget(engine);
+            match refused {
+                OpenError::Refused(error) => Err(error),
+                OpenError::Unsound => Err(Error::Stopped),
+            }
+        }
+    }
+}
+
+// The end, with the disk below the one that is held.
+fn end_below<R>(end: Finished<HeldDisk<'_, Disk, R>>) -> Finished<Disk> {
+    match end {
+        Ok(closed) => {
+            let Closed {
+                device,
+                core,
+                horizon,
+                commits,
+            } = closed;
+            Ok(Closed {
+                device: device.disk,
+                core,
+                horizon,
+                commits,
+            })
+        }
+        Err((error, device)) => Err((error, device.disk)),
+    }
+}
+
+// Lets the writers play on the disk.
+fn play_on<'a, R: Threads + Wait + Clock + Sync>(
     rt: &R,
     alloc: Global,
-    device: D,
-    stage: &'a Stage<'a, R>,
-    writers: Vec<Writer<'a, R>>,
-) -> Result<Left<D>, Error> {
-    match open(alloc, device, usize::from(WRITERS)) {
-        Ok(store) => play_beside(rt, alloc, store, writers, stage),
-        Err((error, device)) => {
+    disk: Disk,
+    (stage, writes): (&'a Stage<'a, R>, Writes),
+) -> Result<Left<Writer<'a, R>, HeldDisk<'a, Disk, R>>, Error> {
+    let writers = writers_on(alloc, stage)?;
+    match open(alloc, HeldDisk { disk, stage }) {
+        Ok(store) => play_beside(rt, alloc, store, writers, stage, writes),
+        Err(error) => {
             forget(writers);
-            forget(device);
             Err(error)
         }
     }
 }
 
-/// Plays the scene on a new store: why the flusher ended, if not with the run; and how many marked entries a crash
-/// left.
+/// Plays the scene on a new store, where the write or sync of this number fails, or none at 0.
 pub fn play<R: Threads + Wait + Clock + Sync>(
     rt: &R,
     alloc: Global,
     stage: &Stage<'_, R>,
-) -> Result<(Option<Error>, u32), Error> {
-    let disk = with_pages(alloc)?;
-    let writers = writers_on(alloc, stage)?;
-    let left = play_on(rt, alloc, HeldDisk { disk, stage }, stage, writers)?;
-    let Left { flusher, device } = left;
-    let marked = marked_behind_crash(alloc, device.disk)?;
-    Ok((flusher, marked))
+    writes: Writes,
+    fails_at: u64,
+) -> Result<Played, Error> {
+    let disk = failing(alloc, fails_at)?;
+    let Left {
+        players,
+        flusher,
+        end,
+    } = play_on(rt, alloc, disk, (stage, writes))?;
+    let told = gather(alloc, &players)?;
+    forget(players);
+    let seen = look(alloc, end_below(end), &told)?;
+    Ok(Played {
+        told,
+        flusher,
+        seen,
+    })
 }

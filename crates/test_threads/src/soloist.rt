@@ -9,6 +9,7 @@ use crate::chairs::Player;
 use crate::looks::QueueEnd;
 use crate::play::{Solo, Turn};
 use crate::store::{open, start, take_back};
+use crate::waits::ByFlusher;
 use records::Error;
 use sector_device::Device;
 use shared::{Group, Kept, Memory, Seat, Shared};
@@ -68,7 +69,7 @@ fn play_beside_queue<B: Group, Q: QueueEnd, A: Memory, R: Wait>(
     queue: &mut Q,
 ) {
     let mut alone = Alone { solo, queue };
-    let_play(rt, shared, at, &mut alone);
+    let_play(rt, shared, &ByFlusher, at, &mut alone);
 }
 
 // The same with the flusher's part.
@@ -146,7 +147,10 @@ fn play_with<B: Group, D: Device + Drop, A: Memory, R: Wait>(
     requires seats { AreNewSeats B.site.board B.site.seats parts.seats.items }
 {
     match play_at_last(rt, &shared, &mut parts.seats, &mut parts.flush, solo) {
-        Ok(()) => Ok(take_back(rt, alloc, shared, parts)),
+        Ok(()) => match take_back(rt, alloc, shared, parts) {
+            Ok(closed) => Ok((closed.into_device(), None)),
+            Err((error, device)) => Ok((device, Some(error))),
+        },
         Err(error) => {
             forget(parts);
             forget(shared);

@@ -16,8 +16,12 @@ const BETWEEN_LOOKS: u64 = 20;
 /// A place of a loop.
 #[derive(Clone, Copy)]
 pub enum Place {
+    /// Within a write to the device.
+    Write,
     /// Within a sync of the device.
     Sync,
+    /// Within a sync that a seat makes, and not the flusher's thread.
+    LeaderSync,
     At(Point),
 }
 
@@ -42,13 +46,22 @@ impl Hold {
     pub fn is_at(&self, point: Point) -> bool {
         match self.place {
             Place::At(at) => at == point,
-            Place::Sync => false,
+            _ => false,
         }
     }
 
-    // Whether a thread is to be held within a sync.
-    fn is_in_sync(&self) -> bool {
-        matches!(self.place, Place::Sync)
+    // Whether a thread is to be held within a write.
+    fn is_in_write(&self) -> bool {
+        matches!(self.place, Place::Write)
+    }
+
+    // Whether a thread is to be held within a sync, of the flusher's thread or of another.
+    fn is_in_sync(&self, by_flusher: bool) -> bool {
+        match self.place {
+            Place::Sync => true,
+            Place::LeaderSync => !by_flusher,
+            _ => false,
+        }
     }
 
     /// Whether a thread was held.
@@ -61,10 +74,9 @@ impl Hold {
     }
 }
 
-/// Where flusher and builder are held, once they are to be; how many steps the cleaner has begun; how many groups were
-/// flushed before the first chunk of an image. Whether the writers may begin, how many have ended, how many of their
-/// commits were acknowledged, and whether anything was refused to them. And whether what the first of them saw of the
-/// index is right.
+/// Where flusher and builder are held, once they are to be; how many steps the cleaner has begun; whether the flusher's
+/// thread is flushing, and how many groups it has flushed before the first chunk of an image. Whether the writers may
+/// begin, and how many have ended.
 #[derive(Drop)]
 pub struct Stage<'a, R> {
     rt: &'a R,
@@ -73,13 +85,11 @@ pub struct Stage<'a, R> {
     armed: AtomicBool,
     late: AtomicBool,
     cleaned: AtomicU64,
+    flushing: AtomicBool,
     groups: AtomicU64,
     copied: AtomicBool,
     begun: AtomicBool,
     ended: AtomicU64,
-    acknowledged: AtomicU64,
-    refused: AtomicBool,
-    seen: AtomicBool,
 }
 
 impl<'a, R: Clock> Stage<'a, R> {
@@ -91,13 +101,11 @@ impl<'a, R: Clock> Stage<'a, R> {
             armed: AtomicBool::new(false),
             late: AtomicBool::new(false),
             cleaned: AtomicU64::new(0),
+            flushing: AtomicBool::new(false),
             groups: AtomicU64::new(0),
             copied: AtomicBool::new(false),
             begun: AtomicBool::new(false),
             ended: AtomicU64::new(0),
-            acknowledged: AtomicU64::new(0),
-            refused: AtomicBool::new(false),
-            seen: AtomicBool::new(false),
         }
     }
 
@@ -116,29 +124,9 @@ impl<'a, R: Clock> Stage<'a, R> {
         self.begun.store(true, Ordering::SeqCst);
     }
 
-    /// A writer has ended: whether nothing was refused to it.
-    pub fn ends_writing(&self, is_done: bool) {
-        if !is_done {
-            self.refused.store(true, Ordering::SeqCst);
-        }
+    /// A writer has ended.
+    pub fn ends_writing(&self) {
         self.ended.fetch_add(1, Ordering::SeqCst);
-    }
-
-    /// A commit was acknowledged.
-    pub fn acknowledges(&self) {
-        self.acknowledged.fetch_add(1, Ordering::SeqCst);
-    }
-
-    /// Whether what was seen of the index is right.
-    pub fn sees(&self, is_right: bool) {
-        self.seen.store(is_right, Ordering::SeqCst);
-    }
-
-    /// Whether so many commits were acknowledged, nothing was refused, and what was seen of the index is right.
-    pub fn is_quiet(&self, commits: u64) -> bool {
-        self.acknowledged.load(Ordering::SeqCst) == commits
-            && !self.refused.load(Ordering::SeqCst)
-            && self.seen.load(Ordering::SeqCst)
     }
 
     /// How many groups were flushed before the first chunk of an image was to be copied.
@@ -219,15 +207,24 @@ impl<'a, R: Clock> Stage<'a, R> {
     }
 }
 
+impl<R> Stage<'_, R> {
+    // The flusher's thread has flushed a group, or found that none is to be flushed.
+    fn ends_group(&self) {
+        self.flushing.store(false, Ordering::SeqCst);
+        if !self.copied.load(Ordering::SeqCst) {
+            self.groups.fetch_add(1, Ordering::SeqCst);
+        }
+    }
+}
+
 impl<R: Clock> Gate for Stage<'_, R> {
     fn at(&self, point: Point) {
         match point {
             Point::CleanStep => {
                 self.cleaned.fetch_add(1, Ordering::SeqCst);
             }
-            Point::FlushGate if !self.copied.load(Ordering::SeqCst) => {
-                self.groups.fetch_add(1, Ordering::SeqCst);
-            }
+            Point::FlushSync => self.flushing.store(true, Ordering::SeqCst),
+            Point::FlushGate => self.ends_group(),
             Point::CopyStep => self.copied.store(true, Ordering::SeqCst),
             _ => {}
         }
@@ -236,7 +233,7 @@ impl<R: Clock> Gate for Stage<'_, R> {
     }
 }
 
-/// A disk that holds the flusher within a sync, where it is to be held there.
+/// A disk that holds the flusher, or a leader, within a write or a sync, where it is to be held there.
 #[derive(Drop)]
 pub struct HeldDisk<'a, D, R> {
     pub disk: D,
@@ -257,12 +254,15 @@ impl<D: Device, R: Clock> Device for HeldDisk<'_, D, R> {
     }
 
     fn write(&mut self, n: u64, bytes: &[u8; SECTOR_SIZE]) -> Result<(), Failed> {
+        let flusher = &self.stage.flusher;
+        self.stage.pass(flusher, flusher.is_in_write());
         self.disk.write(n, bytes)
     }
 
     fn sync(&mut self) -> Result<(), Failed> {
         let flusher = &self.stage.flusher;
-        self.stage.pass(flusher, flusher.is_in_sync());
+        let by_flusher = self.stage.flushing.load(Ordering::SeqCst);
+        self.stage.pass(flusher, flusher.is_in_sync(by_flusher));
         self.disk.sync()
     }
 }

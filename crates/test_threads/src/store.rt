@@ -5,10 +5,10 @@ ghost use Rattle.shared.specs.Seats.{AreNewSeats};
 
 use records::Error;
 use sector_device::Device;
-use shared::{Group, Kept, LoopParts, Memory, Shared};
-use std::mem::forget;
+use shared::{Group, Kept, Memory, Shared};
+use std::alloc::Global;
 use std::sync::Wait;
-use threads_lifetime::{OpenError, OpenStore, Parts, finish, let_go, open_store};
+use threads_lifetime::{Closed, OpenError, OpenStore, Parts, finish, open_store};
 
 /// Opens the store on the device, for so many seats. `Stopped` where what the device holds is not sound.
 pub(crate) fn open<D: Device, A: Memory>(
@@ -33,32 +33,17 @@ pub(crate) fn start<B: Group, D: Device, A: Memory>(
     store.start::<B, Kept>()
 }
 
-/// The device, once all is taken back and what was made is written out, or why it isn't.
+/// The end of all threads: what is left then, or why not all is written out, with the device.
+pub(crate) type Finished<D, A = Global> = Result<Closed<D, A>, (Error, D)>;
+
+/// Takes all back, and writes out what was made.
 pub(crate) fn take_back<B: Group, D: Device, A: Memory, R: Wait>(
     rt: &R,
     alloc: A,
     shared: Shared<B, A>,
     parts: Parts<B, D, A, Kept>,
-) -> (D, Option<Error>)
+) -> Finished<D, A>
     requires { AreAllSeats B.site.seats parts.seats.items }
 {
-    match finish(rt, alloc, shared, parts, Vec::new(alloc)) {
-        Ok(closed) => (closed.into_device(), None),
-        Err((error, device)) => (device, Some(error)),
-    }
-}
-
-/// Lets go of what is left, where nothing more is to be written: the device.
-pub(crate) fn give_up<B: Group, D: Device, A: Memory>(
-    shared: Shared<B, A>,
-    loops: LoopParts<B, D, A>,
-) -> D {
-    let LoopParts {
-        flush,
-        build,
-        clean,
-    } = loops;
-    forget(build);
-    forget(clean);
-    let_go(shared, flush)
+    finish(rt, alloc, shared, parts, Vec::new(alloc))
 }
