@@ -42,7 +42,7 @@ static DAYS: [(&str, bool); 4] = [
 ];
 
 // A key, and the slot of its row on the only page behind them, if there is one.
-type Place = (&'static [u8], Option<u16>);
+pub(crate) type Place = (&'static [u8], Option<u16>);
 
 static PLACES: [Place; 3] = [(b"ant", Some(0)), (b"bee", None), (b"cat", Some(1))];
 
@@ -71,9 +71,9 @@ fn is_placed(core: &Core<Global>, key: &[u8], slot: Option<u16>) -> Result<bool,
     Ok(is_so)
 }
 
-// Whether the index is complete, and the rows lie in their places.
-fn are_placed(core: &Core<Global>) -> Result<bool, Error> {
-    for (key, slot) in &PLACES {
+/// Whether the index is complete, and the rows lie in their places.
+pub(crate) fn are_placed(core: &Core<Global>, places: &[Place]) -> Result<bool, Error> {
+    for (key, slot) in places {
         if !is_placed(core, *key, *slot)? {
             return Ok(false);
         }
@@ -96,7 +96,7 @@ fn are_found<D: Mortal>(
                 unbuilt,
             } = lived;
             drop(answers);
-            let are_placed = are_placed(engine.core());
+            let are_placed = are_placed(engine.core(), &PLACES);
             drop(device_of(engine));
             Ok(are_placed? && unbuilt.is_none())
         }

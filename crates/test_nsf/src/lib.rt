@@ -22,6 +22,8 @@ mod committed_tests;
 #[cfg(test)]
 mod days_tests;
 #[cfg(test)]
+mod ended;
+#[cfg(test)]
 mod files_tests;
 #[cfg(test)]
 mod found;

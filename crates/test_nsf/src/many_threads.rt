@@ -35,7 +35,7 @@ impl Put {
     }
 
     // The same in a transaction of its own, which is taken back where it isn't put.
-    fn put_one<B: Group, R: Wait>(
+    pub(crate) fn put_one<B: Group, R: Wait>(
         rt: &R,
         shared: &Shared<B>,
         seat: &mut Seat<B>,

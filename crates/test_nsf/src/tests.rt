@@ -1,6 +1,7 @@
 //! The examples of README.
 use crate::busy::serve_the_busy;
 use crate::claims::{claim, claim_at};
+use crate::ended::{is_kept_by_the_end, is_moved};
 use crate::full_index::serve_a_crowd;
 use crate::led::put_led;
 use crate::many_threads::put_two;
@@ -28,6 +29,15 @@ fn threads_go_on_with_what_one_thread_left(rt: HostRuntime) -> Result<(), OpenEr
     let found = is_each_found(&rt, rt.alloc())?;
     claim(&rt, found, "each row once");
     Ok(())
+}
+
+// What a seat put is found after an end that is followed by a loss of power; and a store of version 1 lives on.
+#[test]
+fn what_is_opened_again(rt: HostRuntime) {
+    let kept = is_kept_by_the_end(&rt, rt.alloc());
+    claim(&rt, matches!(kept, Ok(true)), "a row after the end");
+    let moved = is_moved(rt.alloc());
+    claim(&rt, matches!(moved, Ok(true)), "a store of version 1");
 }
 
 // Threads write what they wait for themselves, over a store with a row. Whether each row is found once behind a crash.

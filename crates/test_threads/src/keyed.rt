@@ -1,5 +1,6 @@
 //! The calls of a seat, with keys of two numbers.
 use crate::calls::{Calls, put};
+use nsf_core::Ticket;
 use program_demonstration::key_of;
 use records::{Body, Error, Rid, Txn};
 
@@ -34,11 +35,10 @@ fn put_rows<C: Calls>(seat: &mut C, from: u16) -> Result<(), Error> {
 }
 
 /// Inserts a hundred rows in two commits, and then creates the index.
-pub fn set_up<C: Calls>(seat: &mut C) -> Result<(), Error> {
+pub fn set_up<C: Calls>(seat: &mut C) -> Result<Ticket, Error> {
     put_rows(seat, 0)?;
     put_rows(seat, ROWS_OF_COMMIT)?;
-    seat.create_index()?;
-    Ok(())
+    seat.create_index()
 }
 
 /// Drops the index, and creates another one.

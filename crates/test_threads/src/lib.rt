@@ -19,19 +19,19 @@ mod chairs;
 #[cfg(test)]
 mod claims;
 #[cfg(test)]
-mod drop_tests;
-#[cfg(test)]
 mod ends;
 #[cfg(test)]
 mod found;
 #[cfg(test)]
 mod help;
 #[cfg(test)]
-mod interrupted;
-#[cfg(test)]
 mod keyed;
 #[cfg(test)]
 mod looks;
+#[cfg(test)]
+mod loop_tests;
+#[cfg(test)]
+mod loops;
 #[cfg(test)]
 mod play;
 #[cfg(test)]

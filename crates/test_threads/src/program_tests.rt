@@ -335,10 +335,23 @@ fn fails_so<R: Threads + Wait + Clock + Sync>(rt: &R, alloc: Global, behind: u64
     }
 }
 
+// Whether no store is opened where the last write or sync of the opening fails.
+fn opens_nothing<R: Threads + Wait + Clock + Sync>(rt: &R, alloc: Global) -> bool {
+    let Ok(device) = failing(alloc, OPENING) else {
+        return false;
+    };
+    let listener = Heard {
+        commits: AtomicU64::new(0),
+    };
+    worked(rt, alloc, device, &listener).is_none()
+}
+
 // Where nothing fails, all 80 commits are acknowledged; else a writer, the flusher and the end are told that the device
 // has failed.
 #[test]
 fn a_failure_is_told(rt: HostRuntime) {
+    let refused = opens_nothing(&rt, rt.alloc());
+    claim(&rt, refused, "nothing is opened");
     for behind in &BEHIND {
         let told = fails_so(&rt, rt.alloc(), *behind);
         claim_at(&rt, told, "a failure", *behind);
