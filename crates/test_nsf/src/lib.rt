@@ -40,6 +40,8 @@ mod one_thread;
 #[cfg(test)]
 mod recorded;
 #[cfg(test)]
+mod seen;
+#[cfg(test)]
 mod shared_day;
 #[cfg(test)]
 mod tests;

@@ -7,6 +7,7 @@ use crate::led::put_led;
 use crate::many_threads::put_two;
 use crate::one_thread::{filled, holds_each};
 use crate::recorded::Stop;
+use crate::seen::is_seen_at_once;
 use crate::shared_day::{KEYS, live};
 use headline::End;
 use nsf::{Error, Fate, OpenError};
@@ -29,6 +30,13 @@ fn threads_go_on_with_what_one_thread_left(rt: HostRuntime) -> Result<(), OpenEr
     let found = is_each_found(&rt, rt.alloc())?;
     claim(&rt, found, "each row once");
     Ok(())
+}
+
+// What a seat does another one sees at once, whichever call it reads by.
+#[test]
+fn what_another_seat_does(rt: HostRuntime) {
+    let seen = is_seen_at_once(&rt, rt.alloc());
+    claim(&rt, matches!(seen, Ok(true)), "what another seat sees");
 }
 
 // What a seat put is found after an end that is followed by a loss of power; and a store of version 1 lives on.
