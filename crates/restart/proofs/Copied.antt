@@ -1,5 +1,5 @@
 -- What a copy of the core is to the writer, and what is answered to it.
-use Rattle.std.proofs.Common.{[], ◌≡◌, ◌≢◌, ◌⊎◌, false, inl, inr, ℕ, ◌-◌, ◌/◌, ◌≤◌, ◌<◌, List, ◌++◌, Option, None, Some, IfSome, length, take, sym, ◌∙◌, ap}
+use Rattle.std.proofs.Common.{[], ◌≡◌, ◌≢◌, ◌⊎◌, false, ℕ, ◌-◌, ◌/◌, ◌≤◌, ◌<◌, List, ◌++◌, Option, None, Some, IfSome, length, take, sym, ◌∙◌, ap}
 use Rattle.std.proofs.Common.{subst, arith, append-nil, ⊎_elim}
 use Rattle.std.proofs.lemmas.List.{take_all}
 use Rattle.record_values.specs.GeometryValue.{GeometryValue}
@@ -30,7 +30,7 @@ use Rattle.store_writer.specs.Copying.{IsCopying, next_place}
 use Rattle.store_writer.specs.Image.{IsUnderway}
 use Rattle.store_writer.specs.Parts as writer
 use Rattle.store_writer.specs.Places.{AreEntriesNow, AreRowsNow, IsAtPlace}
-use Rattle.store_writer.specs.Writer.{CanFlip, HasBegun, HasPiece, IsChunk, IsFlipReply, IsLogFull, IsEntriesChunk, IsPageChunk, IsStepReply, IsWholeChunk}
+use Rattle.store_writer.specs.Writer.{CanFlip, HasBegun, HasPiece, IsChunk, IsFlipReply, IsEntriesChunk, IsPageChunk, IsStepReply, IsWholeChunk}
 use Rattle.store_writer.specs.Writer.{IsWriter}
 use Rattle.store_writer.specs.declared.copying.Copying.TheVariants.{GivenUp, Idle, Steps}
 use Rattle.store_writer.specs.declared.image.Stage.TheVariants as stage
@@ -40,9 +40,11 @@ use Rattle.store_writer.specs.declared.image.NewImage.{NewImage}
 use Rattle.store_writer.specs.declared.writer.Writer.{Writer}
 use Rattle.txn_table.specs.Sound.{IsSoundTable}
 use Rattle.restart.specs.declared.parts.EngineParts.{EngineParts}
-use Rattle.restart.specs.Copies.{CannotFlip, CannotTake, IsPieceNow, MakesCurrent, MayFlip, TakesPiece, copies_left}
+use Rattle.restart.specs.Copies.{CannotFlip, CannotTake, IsPieceNow, MakesCurrent, TakesPiece, copies_left}
 use Rattle.restart.specs.Copies.{copies_to_flip, left_at}
+use Rattle.restart.specs.Groups.{GivesUp, MayFlip}
 use Rattle.store_image_model.specs.Places.{place_behind}
+use Rattle.restart.proofs.Grouped.{by_giving_up, has_each}
 use Rattle.restart.proofs.Fewer.{IsPieceDue, due_there, fewer_taken, flip_bounds, two_left}
 use Rattle.restart.proofs.Numbers.{count_to_end}
 use Rattle.restart.specs.Parts.{core_of, has_failed, horizon_of, unhanded, unwritten, writer_of}
@@ -384,27 +386,13 @@ module _ {D M : Type 0} (old new : EngineParts D M) where
       omega (arith, now, two, (flip_bounds (core_of new).last (writer.image_of (writer_of new))).0)
 
   -- it can't be, and no group more can be written: it is given up
-  pub cannot_flip : old.writer.copying ≡ Steps None → unhanded new ≡ [] → writer_of new ≡ writer.without_image GivenUp (writer_of old)
-      → ¬ MayFlip (writer_of old)
-      → (writer.waiting_of (writer_of old) ≡ []) ⊎ (IsLogFull (writer_of old) × (writer.waiting_of (writer_of old) ≢ [])) → CannotFlip old new
-  cannot_flip whole all given cannot why = record {
+  pub cannot_flip : old.writer.copying ≡ Steps None → unhanded old ≡ [] → GivesUp (writer_of old) (writer_of new) → CannotFlip old new
+  cannot_flip whole all given = record {
     whole = whole;
-    gone = gone;
-    could-not = cannot;
-    cannot = λ may. not_none (writer.image_of (writer_of new)) may.0 may.1 gone;
-    halves = ap (λ w. writer.halves_of w) given;
-    no_more = ⊎_elim
-        (λ none. inl (waits ∙ none))
-        (λ full. inr (subst (λ w. IsLogFull w) (sym given) full.0, (λ none. full.1 (sym waits ∙ none))))
-        why;
+    first = writer_of old;
+    all = has_each old all;
+    groups = by_giving_up (writer_of old) (writer_of new) given;
   }
-    where
-      gone : writer.image_of (writer_of new) ≡ None
-      gone = ap (λ w. writer.image_of w) given
-
-      waits : unwritten new ≡ writer.waiting_of (writer_of old)
-      waits = ap (λ (l : List RecordValue). writer.waiting_of (writer_of new) ++ l) all ∙ append-nil (writer.waiting_of (writer_of new))
-          ∙ ap (λ w. writer.waiting_of w) given
 
   -- it was taken at once, and has every record made
   module _ {A : Type 0} (v : CoreValue) (mid : Writer D M) (handed number n : ℕ) (piece : Piece A) (of : IsWholeOf v piece)

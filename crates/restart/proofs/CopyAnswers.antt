@@ -23,14 +23,16 @@ use Rattle.store_image_model.specs.Places.{place_behind}
 use Rattle.restart.specs.declared.event.Reply.{Reply}
 use Rattle.restart.specs.declared.event.Reply.TheVariants as reply
 use Rattle.restart.specs.declared.parts.EngineParts.{EngineParts}
-use Rattle.restart.specs.Copies.{CannotFlip, CannotTake, IsCopyAnswer, IsFlippedAtOnce, IsPieceNow, IsPutOff, KeepsAll, MakesCurrent, MayFlip, Succeeds}
+use Rattle.restart.specs.Copies.{CannotFlip, CannotTake, IsCopyAnswer, IsFlippedAtOnce, IsPieceNow, IsPutOff, KeepsAll, MakesCurrent, Succeeds}
 use Rattle.restart.specs.Copies.{TakesPiece, WantsMemory, copies_left, left_at}
+use Rattle.restart.specs.Groups.{MayFlip, WritesByGroups, WritesGroups}
 use Rattle.restart.specs.Handing.{HandsOver}
 use Rattle.restart.specs.History.{IsOfCopy, acknowledged}
 use Rattle.restart.specs.Parts.{copying_of, core_of, device_of, has_failed, horizon_of, unhanded, unwritten, writer_of}
 use Rattle.restart.specs.Store.{CanRun}
 use Rattle.restart.proofs.Numbers.{count_between}
 use Rattle.restart.proofs.Before.{has_as, must_as, piece_before}
+use Rattle.restart.proofs.Grouped.{all_over, groups_then, has_each}
 use Rattle.restart.proofs.Keeping.{keeps_both, keeps_over, keeps_same}
 
 -- those that wait behind a later record are the rest of those that waited
@@ -123,20 +125,21 @@ module _ {D M : Type 0} (failures : D → ℕ) (old mid new : EngineParts D M) w
   -- what is answered where a whole image was to be made current
   pub answer_then : (r : Reply M) → Succeeds failures old mid → mid.writer.copying ≡ Steps None → old.writer.copying ≡ Steps None
       → writer.halves_of (writer_of mid) ≡ writer.halves_of (writer_of old) → copies_left mid ≤ copies_left old
-      → (MayFlip (writer_of old) → mid ≡ old) → IsCopyAnswer failures r mid new → IsCopyAnswer failures r old new
-  answer_then (reply.Txn t) first whole was halves left no_group is = absurd is
-  answer_then (reply.Rid r) first whole was halves left no_group is = absurd is
-  answer_then reply.Stepped first whole was halves left no_group is = absurd is
-  answer_then reply.Undone first whole was halves left no_group is = absurd is
-  answer_then reply.Empty first whole was halves left no_group is = absurd is
-  answer_then reply.Ended first whole was halves left no_group is = absurd is
-  answer_then (reply.Ticket t) first whole was halves left no_group is = absurd is
-  answer_then (reply.Built b) first whole was halves left no_group is = absurd is
-  answer_then (reply.Cleaned c) first whole was halves left no_group is = absurd is
-  answer_then (reply.Horizon m) first whole was halves left no_group is = absurd is
-  answer_then reply.LogFull first whole was halves left no_group is = absurd is
-  answer_then reply.Copied first whole was halves left no_group is = absurd (no_next whole is.1.place is.1.next)
-  answer_then (reply.Flipped n) first whole was halves left no_group is = (well_then first is.0, is.1, current is.2)
+      → (MayFlip (writer_of old) → mid ≡ old) → unhanded old ≡ [] → WritesGroups (writer_of old) (writer_of mid)
+      → WritesByGroups r (writer_of mid) (writer_of new) → IsCopyAnswer failures r mid new → IsCopyAnswer failures r old new
+  answer_then (reply.Txn t) first whole was halves left no_group all before then is = absurd is
+  answer_then (reply.Rid r) first whole was halves left no_group all before then is = absurd is
+  answer_then reply.Stepped first whole was halves left no_group all before then is = absurd is
+  answer_then reply.Undone first whole was halves left no_group all before then is = absurd is
+  answer_then reply.Empty first whole was halves left no_group all before then is = absurd is
+  answer_then reply.Ended first whole was halves left no_group all before then is = absurd is
+  answer_then (reply.Ticket t) first whole was halves left no_group all before then is = absurd is
+  answer_then (reply.Built b) first whole was halves left no_group all before then is = absurd is
+  answer_then (reply.Cleaned c) first whole was halves left no_group all before then is = absurd is
+  answer_then (reply.Horizon m) first whole was halves left no_group all before then is = absurd is
+  answer_then reply.LogFull first whole was halves left no_group all before then is = absurd is
+  answer_then reply.Copied first whole was halves left no_group all before then is = absurd (no_next whole is.1.place is.1.next)
+  answer_then (reply.Flipped n) first whole was halves left no_group all before then is = (well_then first is.0, is.1, current is.2)
     where
       not_at_once : old.writer.copying ≡ GivenUp → ⊥
       not_at_once given = cc (was, given)
@@ -157,23 +160,21 @@ module _ {D M : Type 0} (failures : D → ℕ) (old mid new : EngineParts D M) w
         emptied = λ given. absurd (not_at_once given);
         all = λ given. absurd (not_at_once given);
       }
-  answer_then reply.Again first whole was halves left no_group is = (well_then first is.0, given_up is.1, is.2, omega (arith, is.3, left))
+  answer_then reply.Again first whole was halves left no_group all before then is = (well_then first is.0, given_up is.1, is.2, omega (arith, is.3, left))
     where
       given_up : CannotTake mid new ⊎ CannotFlip mid new → CannotTake old new ⊎ CannotFlip old new
       given_up why = ⊎_elim (λ piece. absurd (no_next whole piece.place piece.next)) (λ flip.
           inr (record {
             whole = was;
-            gone = flip.gone;
-            could-not = λ may. flip.could-not (subst (λ (e : EngineParts D M). MayFlip (writer_of e)) (sym (no_group may)) may);
-            cannot = flip.cannot;
-            halves = flip.halves ∙ halves;
-            no_more = flip.no_more;
+            first = writer_of old;
+            all = has_each old all;
+            groups = groups_then reply.Again (writer_of old) (writer_of mid) (writer_of new) before then;
           })) why
-  answer_then (reply.Row row) first whole was halves left no_group is = absurd is
-  answer_then (reply.Found rids) first whole was halves left no_group is = absurd is
-  answer_then (reply.Life life) first whole was halves left no_group is = absurd is
-  answer_then reply.Skipped first whole was halves left no_group is = absurd is
-  answer_then (reply.Refused e) first whole was halves left no_group is = ⊎_elim
+  answer_then (reply.Row row) first whole was halves left no_group all before then is = absurd is
+  answer_then (reply.Found rids) first whole was halves left no_group all before then is = absurd is
+  answer_then (reply.Life life) first whole was halves left no_group all before then is = absurd is
+  answer_then reply.Skipped first whole was halves left no_group all before then is = absurd is
+  answer_then (reply.Refused e) first whole was halves left no_group all before then is = ⊎_elim
       (λ none. inl (none.0, put_off none.1))
       (λ failed. inr (
         failed.0,
@@ -266,11 +267,9 @@ module _ {D M : Type 0} (past_of : D → DevicePast) (failures : D → ℕ) (old
       }))
       (λ cannot. inr (record {
         whole = sym over.copying ∙ cannot.whole;
-        gone = cannot.gone;
-        could-not = λ may. cannot.could-not (may_over may);
-        cannot = cannot.cannot;
-        halves = cannot.halves ∙ over.halves;
-        no_more = cannot.no_more;
+        first = cannot.first;
+        all = all_over past_of old mid over cannot.first cannot.all;
+        groups = cannot.groups;
       }))
       why
 

@@ -1,11 +1,13 @@
 -- How a build comes to its end.
-use Rattle.std.proofs.Common.{Err, List, None, Ok, Option, Some, [], ap, arith, inl, inr, refl, subst, sym, ℕ, ◌++◌, ◌+◌, ◌<◌, ◌∙◌, ◌∷◌, ◌≡◌, ◌≢◌, ◌≤◌}
+use Rattle.std.proofs.Common.{Err, IfSome, IsSome, List, None, Ok, Option, Some, [], ap, arith, inl, inr, refl, subst, sym, ℕ, ◌++◌, ◌+◌, ◌<◌, ◌∙◌, ◌∷◌, ◌≡◌, ◌≢◌, ◌≤◌}
 use Rattle.std.specs.List.{All}
 use Rattle.std.proofs.Math.Bridge.{le_prop}
 use Rattle.std.proofs.Math.Logic.{∥∥₁_elim, ∥∥₁_map}
+use Rattle.std.proofs.lemmas.Bool.{cases_lt, false≢true}
 use Rattle.std.proofs.lemmas.List.Elements.{All-push}
 use mathlib.Core.HLevel.{⊥_prop}
 use Rattle.record_values.specs.declared.error.Error.{Error}
+use Rattle.record_values.specs.declared.number.TheConstants.{LAST_NUMBER}
 use Rattle.record_values.specs.declared.pair.Pair.{Pair}
 use Rattle.model.specs.declared.life.Life.TheVariants.{Absent, Complete}
 use Rattle.core_model.specs.States.{State}
@@ -27,6 +29,7 @@ use Rattle.restart.specs.declared.event.Reply.TheVariants as reply
 use Rattle.restart.specs.Building.{AreBuilt, BuildsWhole, EndsWith, HasCome, IsBuiltToEnd, IsUnderway, end_of, in_a_row}
 use Rattle.restart.specs.History.{answered}
 use Rattle.restart.specs.Parts.{core_of, writer_of}
+use Rattle.restart.specs.Store.{CanRun, StandsAt}
 use Rattle.restart.proofs.BuiltOn.{at_built, comes_on, one_more_built, survives_built, whole_core}
 use Rattle.restart.proofs.Standing.{Laws}
 use Rattle.restart.proofs.ToEnd.{IsGoing, IsLess, after_mark, after_placed, after_rejected, after_scan, done_completes, not_idle, work_of}
@@ -185,16 +188,16 @@ module _ {D M : Type 0} (old mid new : EngineParts D M) (scanned : ℕ) (so_far 
           (all_built (reply.Refused e) (core.Refused e) refl serves) laws;
     }
 
-    pub done_ends : (ticket : Ticket) (number : ℕ) → number ≡ ticket.record → view.Serves (core_of mid) core.Build (built (build.Done ticket)) (core_of new)
-        → IsBuiltToEnd past_of (Ok number) old new
-    done_ends ticket number told serves = record {
+    pub done_ends : (ticket : Ticket) → view.Serves (core_of mid) core.Build (built (build.Done ticket)) (core_of new)
+        → IsBuiltToEnd past_of (Ok (Some ticket)) old new
+    done_ends ticket serves = record {
       replies = so_far.replies ++ reply.Built (build.Done ticket) ∷ [];
       each = all_built (reply.Built (build.Done ticket)) (built (build.Done ticket)) refl serves;
       ends = inr (record {
         unfinished = so_far.began;
         ticket = ticket;
         ends = ends_with (reply.Built (build.Done ticket)) (built (build.Done ticket)) refl serves;
-        told = told;
+        told = refl;
       });
       at = at_built past_of failures (so_far.replies ++ reply.Built (build.Done ticket) ∷ []) old new
           (all_built (reply.Built (build.Done ticket)) (built (build.Done ticket)) refl serves) laws;
@@ -224,14 +227,29 @@ is_done build.Idle ticket is = absurd cc
 
 module _ {D M : Type 0} (past_of : D → DevicePast) (failures : D → ℕ) (old : EngineParts D M) (laws : Laws past_of (writer_of old)) where
   module _ (complete : (core_of old).life ≡ Complete) where
-    pub complete_ends : (number : ℕ) → number ≡ (core_of old).last → IsBuiltToEnd past_of (Ok number) old old
-    complete_ends number last = record {
+    pub complete_ends : (answer : Option Ticket) → IfSome answer (λ ticket. (ticket.record ≡ (core_of old).last) × (ticket.commit ≡ None))
+        → (answer ≡ None → (core_of old).last ≡ 0) → IsBuiltToEnd past_of (Ok answer) old old
+    complete_ends answer last unmade = record {
       replies = [];
       each = refl;
-      ends = inl (record { complete = complete; none = refl; last = last });
+      ends = inl (record { complete = complete; none = refl; last = last; unmade = unmade });
       at = at_built past_of failures [] old old refl laws;
       survives = survives_built past_of failures [] old old refl laws;
     }
 
     pub complete_whole : BuildsWhole (core_of old) (core_of old)
     complete_whole come none = record { rows = refl; complete = complete; whole = whole_core (core_of old) come complete none }
+
+-- no ticket is answered only where no record was made
+pub none_made : {D M : Type 0} (past_of : D → DevicePast) (old : EngineParts D M) (answer : Option Ticket) (number : ℕ) → CanRun past_of old
+    → number ≡ (core_of old).last → (1 ≤ number → number ≤ LAST_NUMBER → IsSome answer) → answer ≡ None → (core_of old).last ≡ 0
+none_made past_of old answer number can last some none = elim (cases_lt 0 number) [
+  | inl more ↦ absurd (false≢true (subst (λ (a : Option Ticket). IsSome a) none (some (omega (arith, more)) (omega (arith, last, small)))))
+  | inr zero ↦ omega (arith, zero, last)
+]
+  where
+    is : StandsAt past_of can.0 can.1 can.2 can.3 old
+    is = can.4
+
+    small : (core_of old).last ≤ LAST_NUMBER
+    small = omega (arith, is.shown.shown.made, is.shown.standing.within)

@@ -16,7 +16,6 @@ mod AllFlushed
 mod WholeImages
 mod WhyRefused
 mod CopiesAround
-mod Crashes
 mod Climbing
 mod ToEnd
 mod BuiltOn

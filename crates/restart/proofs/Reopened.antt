@@ -36,7 +36,7 @@ use Rattle.restart.specs.Parts.{core_of, device_of, horizon_of, writer_of}
 use Rattle.restart.specs.Reopening.{BeginsOver, IsCoreOf, IsOpened, IsTurned, Recovers, opening}
 use Rattle.restart.specs.Migrating.{IsMigrated}
 use Rattle.restart.proofs.Numbers.{count_to_end}
-use Rattle.restart.specs.Store.{CanRun, IsAt, Past, StandsAt, Survives, items_told, over, run_of}
+use Rattle.restart.specs.Store.{CanRun, IsAt, IsMadeOf, Past, StandsAt, Survives, items_told, over, run_of}
 
 -- a core over what is given has its cells
 begins_with : (pages places : ℕ) (given : Given) → HasCells (opened (record { given = given; pages = pages; places = places })) (opening_cells given)
@@ -113,6 +113,7 @@ module _ {D M : Type 0} (past_of : D → DevicePast) (before : CrashState) (engi
     given = is.given;
     beginning = subst (λ (x : Given). IsBeginning past.given (items_told past) floor x) (sym same) left.beginning;
     within = omega (arith, left.within, ap (λ (x : Given). x.last) same);
+    records = subst (λ (x : Given). IsMadeOf past x) (sym same) left.records;
     core = is.holds ∙ ap (λ (x : GeometryValue). holding x is.given) same_size;
     opens = can_past;
     begins = subst (λ (x : GeometryValue). IsAt past_of (opening x is.given) engine) same_size (begins_at can);
@@ -229,6 +230,7 @@ module _ {M D : Type 0} (past_of : D → DevicePast) (before after : D) (turned 
         gives = same (past_of before).disk c synced was past.geometry left.given left.gives;
         beginning = left.beginning;
         within = left.within;
+        records = left.records;
         opens = left.opens;
       }) turned.images
 

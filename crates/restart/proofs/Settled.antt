@@ -24,6 +24,7 @@ use Rattle.model.proofs.GivenLaws.{given_again}
 use Rattle.core_model.specs.Events as core
 use Rattle.core_model.specs.Events.{Standing, standing_at}
 use Rattle.core_model.specs.Served as told
+use Rattle.core_model.specs.Served.{HasServed}
 use Rattle.core_copies.specs.Lists.{HasLists}
 use Rattle.core_copies.specs.Pieces.{IsWholeOf}
 use Rattle.core_copies.specs.Shown.{IsCellsOf, list_shown}
@@ -62,7 +63,7 @@ use Rattle.restart.specs.Copies.{CannotFlip, CannotTake, IsCopyAnswer}
 use Rattle.restart.specs.History.{core_calls, standing_over}
 use Rattle.restart.specs.Parts.{core_of, device_of, has_failed, horizon_of, unhanded, unwritten, writer_of}
 use Rattle.restart.specs.Settling.{CopiesAnew, IsFresh, IsSettled, WritesWhole, giving_up}
-use Rattle.restart.specs.Store.{CanRun, IsAt, Past, ServesOn, StandsAt, Survives, and_then}
+use Rattle.restart.specs.Store.{CanRun, IsAt, Past, ServesOn, StandsAt, Survives, and_then, over}
 use Rattle.restart.proofs.Copied.{all_handed}
 use Rattle.restart.proofs.Numbers.{count_between}
 use Rattle.restart.proofs.Told.{pairs_last}
@@ -144,6 +145,16 @@ module _ {M : Type 0} (past : Past M) (r : Reply M) (even : length past.replies 
         IsBeginning past.given (told.items_of no_writes pairs) floor left.given) no_call_more left.beginning;
     within = subst (λ (pairs : List (core.Event × core.Reply)).
         left.given.last ≤ (standing_over (standing_at past.given.last) pairs).made) no_call_more left.within;
+    records =
+        let is = left.records in
+        record {
+          made = is.made;
+          state = is.state;
+          standing = is.standing;
+          served = subst (λ (pairs : List (core.Event × core.Reply)). HasServed (over past.geometry past.given) is.made pairs is.state is.standing)
+              no_call_more is.served;
+          same = is.same;
+        };
     opens = left.opens;
   }
 

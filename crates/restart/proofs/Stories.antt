@@ -61,6 +61,7 @@ module _ {M : Type 0} (past : Past M) (made : List RecordValue) (s : State) (k :
         (lower_floor past.given (items_told past) (past.given.last + (left.number - past.given.last)) floor
         (given_after past.given (records_to (run_of past made) left.number)) both.0 (omega (arith, reached, left.least)));
     within = last_within left.number (omega (arith, low, left.least)) (omega (arith, left.most, within));
+    records = record { made = made; state = s; standing = k; served = has; same = sym same };
     opens = subst (λ (g : Given). CanOpen (over past.geometry g)) same both.1;
   }
     where
@@ -124,5 +125,6 @@ survives_lower past floor lower image left le = record {
   gives = left.gives;
   beginning = lower_floor past.given (items_told past) floor lower left.given left.beginning le;
   within = left.within;
+  records = left.records;
   opens = left.opens;
 }

@@ -1,6 +1,6 @@
 -- A build that goes on to its end.
 use Rattle.std.specs.List.{All}
-use Rattle.std.specs.Prelude.{Err, List, None, Ok, Option, Result, Some, ℕ, ◌+◌, [], ◌++◌, ◌↔◌, ◌∷◌, ◌≡◌, ◌≢◌, ◌≤◌, ◌⊎◌}
+use Rattle.std.specs.Prelude.{Err, IfSome, List, None, Ok, Option, Result, Some, ℕ, ◌+◌, [], ◌++◌, ◌↔◌, ◌∷◌, ◌≡◌, ◌≢◌, ◌⊎◌}
 use Rattle.std.specs.FinMap.{get}
 use Rattle.marked_index.specs.Index.{IsFull}
 use Rattle.records.specs.RecordValue.{RecordValue}
@@ -96,30 +96,32 @@ pub record EndsWith {M : Type 0} (last : Reply M) (replies : List (Reply M)) : T
   pub all : replies ≡ before ++ last ∷ []
   pub underway : All IsUnderway before
 
--- where the index was complete already: no step, and the number of the last record made
-pub record WasComplete {M : Type 0} (number : ℕ) (replies : List (Reply M)) (old : CoreValue) : Type 0 where
+-- where the index was complete already: no step, and the ticket of the last record made, if there is one
+pub record WasComplete {M : Type 0} (answer : Option Ticket) (replies : List (Reply M)) (old : CoreValue) : Type 0 where
   pub complete : old.life ≡ Complete
   pub none : replies ≡ []
-  pub last : number ≡ old.last
+  pub last : IfSome answer (λ ticket. (ticket.record ≡ old.last) × (ticket.commit ≡ None))
+  pub unmade : answer ≡ None → old.last ≡ 0
 
--- where it wasn't: the steps, the last of which tells the end of the build, by the record of this number
-pub record BecameComplete {M : Type 0} (number : ℕ) (replies : List (Reply M)) (old : CoreValue) : Type 0 where
+-- where it wasn't: the steps, the last of which tells the end of the build, by this ticket
+pub record BecameComplete {M : Type 0} (answer : Option Ticket) (replies : List (Reply M))
+    (old : CoreValue) : Type 0 where
   pub unfinished : old.life ≢ Complete
   pub ticket : Ticket
   pub ends : EndsWith (reply.Built (build.Done ticket)) replies
-  pub told : number ≡ ticket.record
+  pub told : answer ≡ Some ticket
 
 -- how it ends: at once where the index was complete, and else with the end of the build, or with the refusal that is
 -- answered
-abbrev pub IsEnd : {M : Type 0} → Result ℕ Error → List (Reply M) → CoreValue → Type 0
-IsEnd (Ok number) replies old = WasComplete number replies old ⊎ BecameComplete number replies old
+abbrev pub IsEnd : {M : Type 0} → Result (Option Ticket) Error → List (Reply M) → CoreValue → Type 0
+IsEnd (Ok answer) replies old = WasComplete answer replies old ⊎ BecameComplete answer replies old
 IsEnd (Err e) replies old = (old.life ≢ Complete) × EndsWith (reply.Refused e) replies
 
 -- The engine went on by steps of the builder alone, to the end that is answered. Where some run had left it, that run
 -- goes on with these requests. A crash at any moment leaves a prefix of the history with them, with every record up to
 -- the horizon before, and so what was acknowledged.
 pub record IsBuiltToEnd {D M : Type 0} (past_of : D
-    → DevicePast) (result : Result ℕ Error) (old new : EngineParts D M) : Type 0 where
+    → DevicePast) (result : Result (Option Ticket) Error) (old new : EngineParts D M) : Type 0 where
   pub replies : List (Reply M)
   pub each : AreBuilt replies old new
   pub ends : IsEnd result replies (core_of old)

@@ -30,6 +30,7 @@ use Rattle.restart.specs.declared.event.Event.TheVariants as event
 use Rattle.restart.specs.declared.event.Reply.{Reply}
 use Rattle.restart.specs.declared.event.Reply.TheVariants as reply
 use Rattle.restart.specs.declared.parts.EngineParts.{EngineParts}
+use Rattle.restart.specs.Groups.{HasAll, MayFlip, WritesByGroups}
 use Rattle.restart.specs.Parts.{KeepsStore, copying_of, core_of, device_of, has_failed, horizon_of, log_of, unhanded}
 use Rattle.restart.specs.Parts.{unwritten, writer_of}
 
@@ -121,20 +122,13 @@ pub record CannotTake {D M : Type 0} (old new : EngineParts D M) : Type 0 where
   pub log : log_of new ≡ log_of old
   pub horizon : horizon_of new ≡ horizon_of old
 
--- an image is whole, and the records above its base, up to its last piece, are synced
-abbrev pub MayFlip : {D M : Type 0} → Writer D M → Type 0
-MayFlip w = (image : NewImage) × (w.image ≡ Some image) × (image.stage ≡ stage.Whole)
-    × (image.number ≤ reach image w.synced)
-
--- Every piece was taken, and the image can't be made current, before and now: no group more can be written, since no
--- record waits or every slot of the log is open. It is given up, and the same half is current.
+-- Every piece was taken, and the image couldn't be made current. The writer, which had every record then, wrote group
+-- after group; and as no more could be written, and the image couldn't be made current even then, it was given up.
 pub record CannotFlip {D M : Type 0} (old new : EngineParts D M) : Type 0 where
   pub whole : copying_of old ≡ Steps None
-  pub gone : image_of (writer_of new) ≡ None
-  pub could-not : ¬ MayFlip (writer_of old)
-  pub cannot : ¬ MayFlip (writer_of new)
-  pub halves : halves_of (writer_of new) ≡ halves_of (writer_of old)
-  pub no_more : (unwritten new ≡ []) ⊎ (IsLogFull (writer_of new) × (unwritten new ≢ []))
+  pub first : Writer D M
+  pub all : HasAll old first
+  pub groups : WritesByGroups reply.Again first (writer_of new)
 
 -- The image was made current without a group more: its log is the log, and what it reached is synced.
 pub record IsFlippedAtOnce {D M : Type 0} (old new : EngineParts D M) (image : NewImage) : Type 0 where

@@ -13,7 +13,8 @@ use Rattle.store_writer.specs.Writer.{IsFlushReply}
 use Rattle.store_writer.specs.declared.copying.Copying.TheVariants.{Steps}
 use Rattle.store_writer.specs.declared.writer.FlushReply.TheVariants.{Flushed}
 use Rattle.restart.specs.declared.parts.EngineParts.{EngineParts}
-use Rattle.restart.specs.Copies.{MayFlip, Succeeds, copies_left}
+use Rattle.restart.specs.Copies.{Succeeds, copies_left}
+use Rattle.restart.specs.Groups.{MayFlip}
 use Rattle.restart.specs.Parts.{copying_of, core_of, device_of, horizon_of, unhanded, unwritten, writer_of}
 use Rattle.restart.specs.Store.{StandsAt}
 

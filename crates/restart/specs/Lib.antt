@@ -1,5 +1,6 @@
 pub mod Parts
 pub mod History
+pub mod Groups
 pub mod Copies
 pub mod Store
 pub mod Handing
@@ -10,7 +11,6 @@ pub mod Building
 pub mod Reopening
 pub mod Migrating
 pub mod Story
-pub mod Groups
 pub mod Repeated
 pub mod Settling
 pub use Rattle.store_opener.specs.Reopening as Writing

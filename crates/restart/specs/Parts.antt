@@ -25,9 +25,13 @@ device_of engine = writer.device_of engine.writer
 abbrev pub log_of : {D M : Type 0} → EngineParts D M → Log
 log_of engine = writer.log_of engine.writer
 
+-- the records that were taken from the core, and that the writer doesn't have yet, in order
+abbrev pub outgoing_of : {D M : Type 0} → EngineParts D M → List RecordValue
+outgoing_of engine = engine.outgoing.items
+
 -- the records that the writer doesn't have yet, in order
 abbrev pub unhanded : {D M : Type 0} → EngineParts D M → List RecordValue
-unhanded engine = engine.outgoing.items ++ (core_of engine).outbox
+unhanded engine = outgoing_of engine ++ (core_of engine).outbox
 
 -- the records that are not synced yet, in order
 abbrev pub unwritten : {D M : Type 0} → EngineParts D M → List RecordValue

@@ -1,14 +1,12 @@
 -- An engine that is left as a restart would leave it.
 use Rattle.std.specs.FinMap.{len}
-use Rattle.std.specs.Prelude.{◌≡◌, ◌⊎◌, ◌≤◌, ℕ, false, None}
+use Rattle.std.specs.Prelude.{◌≡◌, ◌≤◌, ℕ, false, None}
 use Rattle.record_values.specs.GeometryValue.{GeometryValue}
 use Rattle.record_values.specs.declared.error.Error.{Error}
-use Rattle.record_values.specs.declared.error.Error.TheVariants.{NoMemory, TxnsActive}
 use Rattle.model.specs.Given.{opening_cells}
 use Rattle.core_model.specs.Events.{standing_at}
 use Rattle.core_copies.specs.Loaded.{holding}
 use Rattle.core_model.specs.Histories.{Opened, opened}
-use Rattle.nsf_core.specs.Loading.{IsQuiet}
 use Rattle.core_parts.specs.Opening.{opened_of}
 use Rattle.core_parts.specs.View.{CoreValue, IsState}
 use Rattle.sector_device.specs.Disk.{CrashState, IsCrashState}
@@ -77,11 +75,3 @@ pub record WritesWhole {D M : Type 0} (past_of : D → DevicePast) (failures : D
 abbrev pub IsNotWritten : {D M : Type 0} → (D → DevicePast) → (D → ℕ) → EngineParts D M → EngineParts D M → Error
     → Type 0
 IsNotWritten past_of failures old new e = CopiesAnew past_of failures (Refused e) old new
-
--- A transaction is active, and the engine is as it was. Or none is: then there was no memory for a core, and it is as
--- it was; or what it holds could not be written, and its run goes on.
-abbrev pub IsNotParted : {D M : Type 0} → (D → DevicePast) → (D → ℕ) → EngineParts D M → EngineParts D M → Error
-    → Type 0
-IsNotParted past_of failures old new e =
-    ((e ≡ TxnsActive) × (IsQuiet (core_of old) → ⊥) × (new ≡ old))
-    ⊎ (IsQuiet (core_of old) × (((e ≡ NoMemory) × (new ≡ old)) ⊎ IsNotWritten past_of failures old new e))

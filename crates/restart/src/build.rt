@@ -1,8 +1,22 @@
 //! What the steps of a build tell who builds an index to its end.
-ghost use Rattle.std.specs.Prelude.{◌≡◌};
+ghost use Rattle.std.specs.Prelude.{◌≡◌, ◌≤◌, IfSome, IsSome, None};
+ghost use Rattle.record_values.specs.declared.number.TheConstants.{LAST_NUMBER};
 ghost use Rattle.restart.specs.Building.{end_of, in_a_row};
 
 use nsf_core::{BuildReply, Ticket};
+use records::RecordNumber;
+
+// A ticket of the record of this number, if a record may have it; it is no commit's.
+pub(crate) fn ticket_of(number: u64) -> Option<Ticket>
+    ensures ticket { IfSome result (λ ticket. (ticket.«record» ≡ number) × (ticket.commit ≡ None)) }
+    ensures some { 1 ≤ number → number ≤ LAST_NUMBER → IsSome result }
+{
+    let record = RecordNumber::new(number)?;
+    Some(Ticket {
+        record,
+        commit: None,
+    })
+}
 
 // The ticket of the build's end, where the reply tells of it.
 pub(crate) fn end_of(reply: &BuildReply) -> Option<Ticket>

@@ -39,7 +39,7 @@ impl<D: Device, A: Allocator + Copy> EngineParts<D, A> {
         requires { CanRun D.past_of self.old }
         ensures serves { ServesOn D.past_of event.Copy result self.old self.new }
         ensures answer { IsCopyAnswer D.failures result self.old self.new }
-        ensures groups { CopiesByGroups self.old self.new }
+        ensures groups { CopiesByGroups result self.old self.new }
         ensures around { CopiesAround D.past_of self.old self.new }
         ensures can_run { CanRun D.past_of self.new }
     {
@@ -59,7 +59,8 @@ impl<D: Device, A: Allocator + Copy> EngineParts<D, A> {
         requires sound { has_failed self.old ≡ false }
         ensures moves { MovesOn D.past_of self.old self.new }
         ensures answer { IsCopyAnswer D.failures result self.old self.new }
-        ensures groups { copying_of self.old ≡ Steps None → WritesByGroups (writer_of self.old) (writer_of self.new) }
+        ensures groups { copying_of self.old ≡ Steps None
+            → WritesByGroups result (writer_of self.old) (writer_of self.new) }
         ensures around { CopiesAround D.past_of self.old self.new }
     {
         match self.writer.copying() {
@@ -155,7 +156,7 @@ impl<D: Device, A: Allocator + Copy> EngineParts<D, A> {
         requires whole { copying_of self.old ≡ Steps None }
         ensures moves { MovesOn D.past_of self.old self.new }
         ensures answer { IsCopyAnswer D.failures result self.old self.new }
-        ensures groups { WritesByGroups (writer_of self.old) (writer_of self.new) }
+        ensures groups { WritesByGroups result (writer_of self.old) (writer_of self.new) }
         ensures around { CopiesAround D.past_of self.old self.new }
     {
         'groups: loop {
@@ -175,7 +176,7 @@ impl<D: Device, A: Allocator + Copy> EngineParts<D, A> {
         ensures moves { MovesOn D.past_of self.old self.new }
         ensures answer { IfSome result (λ reply. IsCopyAnswer D.failures reply self.old self.new) }
         ensures flushed { IfNone result (FlushesFirst D.failures self.old self.new) }
-        ensures groups { IfSome result (λ reply. WritesByGroups (writer_of self.old) (writer_of self.new)) }
+        ensures groups { IfSome result (λ reply. WritesByGroups reply (writer_of self.old) (writer_of self.new)) }
         ensures around { CopiesAround D.past_of self.old self.new }
     {
         match self.writer.checkpoint_flip() {

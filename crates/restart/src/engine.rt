@@ -1,14 +1,14 @@
 //! The engine: a store that serves requests, whatever was asked of it before.
 ghost use Rattle.std.specs.Prelude.{◌≡◌, ◌≢◌, ◌⊎◌, ◌≤◌, [], OnErr, OnOk, IfOk, IfErr};
 
-use crate::build::{end_of, in_a_row};
+use crate::build::{end_of, in_a_row, ticket_of};
 use crate::parts::EngineParts;
 use crate::{Event, Reply};
 use core_copies::each_list;
 use core_model::each_half;
 use model::Life;
-use nsf_core::Core;
-use records::Error;
+use nsf_core::{Core, Ticket};
+use records::{Error, Record};
 use sector_device::Device;
 use std::alloc::Allocator;
 use std::marker::Model;
@@ -47,8 +47,8 @@ impl<D: Device, A: Allocator + Copy> Engine<D, A> {
     ghost use Rattle.restart.specs.Lawful.{IsLawful, AreLawful};
     ghost use Rattle.restart.specs.Store.{ServesOn, RunsOn, RunsLawfully, KeepsRun, KeepsAround, KeepsSectors};
     ghost use Rattle.restart.specs.Store.{OpensSlotsAlone, CopiesAround, HaveNoCopy};
-    ghost use Rattle.restart.specs.Parted.{ArePartsOf, LeavesPartsOf, IsGivenBack};
-    ghost use Rattle.restart.specs.Ran.{KeepsWholeRun, SurvivesAnyCrash};
+    ghost use Rattle.restart.specs.Parted.{ArePartsOf, LeavesPartsOf};
+    ghost use Rattle.restart.specs.Ran.{KeepsWholeRun};
     ghost use Rattle.restart.specs.Building.{IsBuiltToEnd, IsIndexFull, BuildsWhole, HasCome};
 
     /// Serves one request. Of an engine that a run left, or that was opened over what a core may begin with: a crash at
@@ -57,15 +57,16 @@ impl<D: Device, A: Allocator + Copy> Engine<D, A> {
     /// log and, where an image is under way, of the log of its half (`around`), and by a flush none but those of the
     /// slot that it opens there (`slot`). By a copy none is written but those of the half that isn't current, the one
     /// that tells which half is, and, while a whole image waits, those of the log (`copied`). A copy that finds a whole
-    /// image waiting writes filled groups, and none where the image could be made current at once (`groups`). The
-    /// device has as many sectors as before (`sectors`).
+    /// image waiting writes filled groups, and none where the image could be made current at once; it gives the image
+    /// up only where it can't be made current and no group more can be written (`groups`). The device has as many
+    /// sectors as before (`sectors`).
     pub fn serve(&mut self, event: Event) -> Reply<A>
         ensures serves { ServesOn D.past_of event result self.old self.new }
         ensures lawful { IsLawful D.failures event result self.old self.new }
         ensures around { event ≢ Event.Copy → KeepsAround D.past_of self.old self.new }
         ensures slot { event ≡ Event.Flush → OpensSlotsAlone D.past_of self.old self.new }
         ensures copied { event ≡ Event.Copy → CopiesAround D.past_of self.old self.new }
-        ensures groups { event ≡ Event.Copy → CopiesByGroups self.old self.new }
+        ensures groups { event ≡ Event.Copy → CopiesByGroups result self.old self.new }
         ensures sectors { KeepsSectors D.past_of self.old self.new }
     {
         each_half();
@@ -90,8 +91,6 @@ impl<D: Device, A: Allocator + Copy> Engine<D, A> {
     /// within a request none up to the horizon as that request began (`served`), and behind the last one none up to the
     /// horizon then (`at_end`). The device has as many sectors as before (`sectors`).
     pub fn run(&mut self, events: &[Event]) -> Result<Vec<Reply<A>, A>, Error>
-        ensures any_crash { IfOk result (λ replies.
-            SurvivesAnyCrash D.past_of events.now replies.items self.old self.new) }
         ensures at_end { IfOk result (λ replies. KeepsWholeRun D.past_of events.now replies.items self.old self.new) }
         ensures ran { IfOk result (λ replies. RunsOn D.past_of events.now replies.items self.old self.new) }
         ensures served { IfOk result (λ replies.
@@ -113,9 +112,8 @@ impl<D: Device, A: Allocator + Copy> Engine<D, A> {
         Ok(replies)
     }
 
-    /// Makes steps of the builder until the index is complete, and answers the number of the record of its end. Where
-    /// it is complete already, the answer is the number of the last record made, 0 where there is none, and nothing
-    /// changes.
+    /// Makes steps of the builder until the index is complete, and answers the ticket of its end. Where it is complete
+    /// already, the answer is a ticket of the last record made, if there is one, and nothing changes.
     ///
     /// A refusal is that of the step that met it, and ends the steps; what was built before it stays (`built`).
     /// `NoIndex` comes only where there is none (`no_index`); `IndexFull` where a pair that has no entry meets no free
@@ -128,7 +126,7 @@ impl<D: Device, A: Allocator + Copy> Engine<D, A> {
     /// a row, the pair of each row was visible as far as the index was built and nowhere marked, and without an index
     /// there was no entry (`CanOpen`): a builder leaves a marked entry as it is. It stays so whatever the answer is
     /// (`come`), so that a build may be gone on with; and no row changes (`rows`).
-    pub fn build_to_end(&mut self) -> Result<u64, Error>
+    pub fn build_to_end(&mut self) -> Result<Option<Ticket>, Error>
         ensures built { IsBuiltToEnd D.past_of result self.old self.new }
         ensures whole { OnOk result (BuildsWhole (core_of self.old) (core_of self.new)) }
         ensures why { IfErr result (λ e. (e ≡ Error.NoIndex) ⊎ (e ≡ Error.IndexFull) ⊎ (e ≡ Error.Exhausted)
@@ -143,13 +141,13 @@ impl<D: Device, A: Allocator + Copy> Engine<D, A> {
         each_list();
         self.parts.writer.goes_on();
         if let Life::Complete = self.parts.core.life() {
-            return Ok(self.parts.core.last());
+            return Ok(ticket_of(self.parts.core.last()));
         }
         let mut scanned = 0;
         'steps: loop {
             let reply = self.parts.core.build_step()?;
             match end_of(&reply) {
-                Some(ticket) => return Ok(ticket.record.get()),
+                Some(ticket) => return Ok(Some(ticket)),
                 None => scanned = in_a_row(scanned, &reply),
             }
         }
@@ -180,32 +178,26 @@ impl<D: Device, A: Allocator + Copy> Engine<D, A> {
         self.parts.writer.device()
     }
 
-    /// The core, and the writer that owns the device, with every record that the core made (`left`): the device is as
-    /// it was, and so are an image under way and the place of its copying. The core goes on counting its transactions
-    /// and commits; one that served nothing is as `restart` loaded it.
+    /// The core, with the records that wait in it; those that were taken from it, and that the writer doesn't have for
+    /// want of memory, in order; and the writer that owns the device. Nothing is written, and no memory is taken. An
+    /// image under way is forgotten, so that the next one is copied from its start. The core goes on counting its
+    /// transactions and commits; one that served nothing is as `restart` loaded it.
     ///
-    /// An `Err` gives the engine back, for want of memory to hand the records over: no record is lost, and the run goes
-    /// on (`back`).
-    pub fn take_apart(self) -> Result<(Core<A>, StoreWriter<D, A>), Self>
-        ensures parts { IfOk result (λ r. ArePartsOf self (value_of r.0) r.1) }
-        ensures left { IfOk result (λ r. LeavesPartsOf D.past_of self (value_of r.0) r.1) }
-        ensures back { IfErr result (IsGivenBack D.past_of self) }
+    /// Who goes on with them hands the records in first, and then those of the core: then the writer has all that were
+    /// made, and they make what the core has (`left`).
+    pub fn into_parts(self) -> (Core<A>, Vec<Record, A>, StoreWriter<D, A>)
+        ensures parts { ArePartsOf self (value_of result.0) result.1.items result.2 }
+        ensures left { LeavesPartsOf D.past_of self (value_of result.0) result.1.items result.2 }
     {
-        let Engine { mut parts } = self;
-        let all = parts.hand_over();
-        if all {
-            let EngineParts {
-                core,
-                writer,
-                outgoing,
-                ..
-            } = parts;
-            drop(outgoing);
-            Ok((core, writer))
-        } else {
-            let engine = Engine { parts };
-            Err(engine)
-        }
+        let Engine { parts } = self;
+        let EngineParts {
+            core,
+            mut writer,
+            outgoing,
+            ..
+        } = parts;
+        writer.forget_image();
+        (core, outgoing, writer)
     }
 
     /// The device as it is now. What was not written to it is lost, and nothing of it was acknowledged: a crash of the

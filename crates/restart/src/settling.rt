@@ -4,9 +4,8 @@ ghost use Rattle.std.specs.Prelude.{◌≡◌, None, OnOk, IfErr, IfOk};
 ghost use Rattle.nsf_core.specs.Loading.{IsQuiet};
 ghost use Rattle.nsf_core.specs.Value.{value_of};
 ghost use Rattle.restart.specs.Parts.{core_of};
-ghost use Rattle.restart.specs.Settling.{CopiesAnew, IsFresh, IsNotParted, IsNotWritten, WritesWhole};
+ghost use Rattle.restart.specs.Settling.{CopiesAnew, IsFresh, IsNotWritten, WritesWhole};
 ghost use Rattle.restart.specs.Store.{CanRun};
-ghost use Rattle.store_writer.specs.Parts.{image_of};
 
 use crate::parts::EngineParts;
 use crate::{Engine, Reply};
@@ -84,38 +83,6 @@ impl<D: Device, A: Allocator + Copy> Engine<D, A> {
             Reply::Flipped(_) => Ok(parts.into_writer()),
             Reply::Refused(error) => Err((error, Engine { parts })),
             _ => unreachable!(),
-        }
-    }
-
-    /// The parts of an engine with no transaction active (`quiet`): a core as a restart makes one (`fresh`), whose
-    /// commits count from 0 again (`counted`), and the writer that owns the device. An image under way is given up
-    /// (`given_up`): a whole one of all that the engine holds takes its place and is made current, so that every record
-    /// is synced (`written`).
-    ///
-    /// `TxnsActive` where a transaction is active; `NoMemory`; and `DeviceFailed` as of a copy. With any of them the
-    /// engine is given back, and its run goes on; it is as it was, but where what it holds could not be written
-    /// (`refused`).
-    pub fn into_parts(self) -> Result<(Core<A>, StoreWriter<D, A>), (Error, Self)>
-        ensures quiet { OnOk result (IsQuiet (core_of self)) }
-        ensures fresh { IfOk result (λ r. IsFresh (core_of self) (value_of r.0)) }
-        ensures counted { IfOk result (λ r. (value_of r.0).commits ≡ 0) }
-        ensures given_up { IfOk result (λ r. image_of r.1 ≡ None) }
-        ensures written { IfOk result (λ r. WritesWhole D.past_of D.failures self r.1) }
-        ensures refused { IfErr result (λ r. IsNotParted D.past_of D.failures self r.1 r.0) }
-    {
-        if self.core().active_txns() > 0 {
-            return Err((Error::TxnsActive, self));
-        }
-        let core = match self.fresh_core() {
-            Ok(core) => core,
-            Err(error) => return Err((error, self)),
-        };
-        match self.into_writer() {
-            Ok(writer) => Ok((core, writer)),
-            Err(refused) => {
-                drop(core);
-                Err(refused)
-            }
         }
     }
 }

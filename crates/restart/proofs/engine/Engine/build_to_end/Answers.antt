@@ -1,4 +1,4 @@
-use Rattle.std.proofs.Common.{Err, refl, subst, sym, ◌∙◌, ◌≡◌, ◌≤◌}
+use Rattle.std.proofs.Common.{Err, IfSome, None, refl, subst, sym, ◌∙◌, ◌≡◌, ◌≤◌}
 use Rattle.std.proofs.lemmas.Result.{err_from_is_err_and}
 use Rattle.record_values.specs.declared.error.Error.TheVariants.{Exhausted, IndexFull, NoIndex}
 use Rattle.record_values.specs.declared.number.TheConstants.{LAST_NUMBER}
@@ -13,7 +13,7 @@ use Rattle.core_parts.specs.declared.reply.BuildReply.TheVariants.{Done}
 use Rattle.restart.specs.Parts.{core_of, writer_of}
 use Rattle.restart.specs.Store.{CanRun}
 use Rattle.restart.proofs.BuiltOn.{can_run_built}
-use Rattle.restart.proofs.Ended.{all_built, comes_to, complete_ends, complete_whole, done_ends, done_whole, is_done, none_built, refused_ends, rows_stay}
+use Rattle.restart.proofs.Ended.{all_built, comes_to, complete_ends, complete_whole, done_ends, done_whole, is_done, none_built, none_made, refused_ends, rows_stay}
 use Rattle.restart.proofs.Ended.{stepped}
 use Rattle.restart.proofs.Standing.{Laws}
 use Rattle.restart.proofs.WhyRefused.{IsWhy, refused_full, refused_none, refused_out, refused_why}
@@ -24,7 +24,9 @@ returns-in-Complete-clause-built g c =
     rw (← c.self.view_is) (
     complete_ends g.D.Device.past_of g.D.Device.failures c.self.inside.parts
     (record { half = c.each_half.ensures.goes_on; lists = c.each_list.ensures.goes_on; goes = c.goes_on.ensures }) (sym c.life.ensures.life
-    ∙ c.in-Complete.is) c.last.result c.last.ensures)
+    ∙ c.in-Complete.is) c.ticket_of.result
+    (subst (λ n. IfSome c.ticket_of.result (λ ticket. (ticket.record ≡ n) × (ticket.commit ≡ None))) c.last.ensures c.ticket_of.ensures.ticket)
+    (none_made g.D.Device.past_of c.self.inside.parts c.ticket_of.result c.last.result c.self.invariant c.last.ensures c.ticket_of.ensures.some))
 
 pub returns-in-Complete-clause-whole : goal.returns-in-Complete-clause-whole
 returns-in-Complete-clause-whole g c =
@@ -89,7 +91,7 @@ returns-in-Some-clause-built g c =
     (record { half = c.each_half.ensures.goes_on; lists = c.each_list.ensures.goes_on; goes = c.goes_on.ensures }) in
     let done : Serves (core_of mid) Build (built (Done c.in-Some.ticket)) (core_of new) = subst (λ b. Serves (core_of mid) Build (built b) (core_of new))
     (is_done c.in_ok-reply.reply c.in-Some.ticket (sym c.end_of.ensures ∙ c.in-Some.is)) c.in_ok-reply.ensures in
-    done_ends old mid new c.steps.scanned c.steps.invariant refl past_of failures laws c.in-Some.ticket c.get.result c.get.ensures.value done
+    done_ends old mid new c.steps.scanned c.steps.invariant refl past_of failures laws c.in-Some.ticket done
 
 pub returns-in-Some-clause-whole : goal.returns-in-Some-clause-whole
 returns-in-Some-clause-whole g c =

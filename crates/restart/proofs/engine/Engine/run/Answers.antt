@@ -8,7 +8,6 @@ use Rattle.store_writer.proofs.Around.{then_around}
 use Rattle.restart.specs.Parts.{horizon_of, writer_of}
 use Rattle.restart.proofs.Around.{around_none, no_copy_last}
 use Rattle.restart.proofs.Runs.{goes_nowhere, goes_further, lawful_last, served_last}
-use Rattle.restart.proofs.Crashes.{survives_any_crash}
 use Rattle.restart.proofs.Stories.{crash_since}
 use Rattle.restart.proofs.engine.Engine.run.Goals as goal
 
@@ -76,7 +75,6 @@ returns g c =
     λ past is. subst (λ (es : List Event). GoesOn g.D.Device.past_of past es c.loop-event.replies.items c.args.self.now c.loop-event.self)
     (take_all c.loop-event.event-index c.args.events.now c.loop-event-test.false) (c.loop-event.invariant.ran past is) in
     record {
-      any_crash = survives_any_crash g.D.Device.past_of c.args.events.now c.loop-event.replies.items c.args.self.now c.loop-event.self ran;
       at_end = λ past is image crash. crash_since g.D.Device.past_of (and_then past c.args.events.now c.loop-event.replies.items) c.loop-event.self
           (ran past is).at (horizon_of c.loop-event.self) (omega arith) image crash;
       served = λ past is. subst (λ (es : List Event).

@@ -74,11 +74,13 @@ returns-clause-around g c = copied_over g.D.Device.past_of c.args.self.now c.han
     c.copy_handed.ensures.around
 
 pub returns-then-has_failed-clause-groups : goal.returns-then-has_failed-clause-groups
-returns-then-has_failed-clause-groups g c = kept_store c.args.self.now
+returns-then-has_failed-clause-groups g c = kept_store (Refused DeviceFailed) c.args.self.now
 
 pub returns-then-not-hand_over-clause-groups : goal.returns-then-not-hand_over-clause-groups
-returns-then-not-hand_over-clause-groups g c = not_over_kept g.D.Device.past_of c.args.self.now c.hand_over.new.self c.hand_over.ensures.hands
+returns-then-not-hand_over-clause-groups g c =
+    not_over_kept g.D.Device.past_of c.args.self.now c.hand_over.new.self c.hand_over.ensures.hands (Refused NoMemory)
 
 pub returns-clause-groups : goal.returns-clause-groups
-returns-clause-groups g c = groups_over g.D.Device.past_of c.args.self.now c.hand_over.new.self c.hand_over.ensures.hands c.copy_handed.new.self
+returns-clause-groups g c = groups_over g.D.Device.past_of c.args.self.now c.hand_over.new.self c.hand_over.ensures.hands c.copy_handed.result
+    c.copy_handed.new.self
     (c.hand_over.ensures.all.0 c.if-not-hand_over.false) c.copy_handed.ensures.groups

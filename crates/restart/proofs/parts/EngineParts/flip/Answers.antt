@@ -1,6 +1,5 @@
 use Rattle.std.proofs.Common.{refl, arith, subst, sym, ◌∙◌}
-use Rattle.restart.specs.Copies.{MayFlip}
-use Rattle.restart.specs.Groups.{no_more}
+use Rattle.restart.specs.Groups.{MayFlip, no_more}
 use Rattle.restart.specs.Parts.{writer_of}
 use Rattle.restart.proofs.CopiesAround.{as_before, copies_then, none_copied_around}
 use Rattle.restart.proofs.CopyAnswers.{answer_then, none_well, well_then}
@@ -63,7 +62,8 @@ returns-in-Some-clause-moves g c =
 pub returns-in-Some-clause-answer : goal.returns-in-Some-clause-answer
 returns-in-Some-clause-answer g c =
     answer_then g.D.Device.failures c.args.self.now c.groups.self c.flip_or_flush.new.self c.in-Some.reply c.groups.invariant.well c.groups.invariant.copying
-    c.requires.whole c.groups.invariant.halves c.groups.invariant.left c.groups.invariant.behind c.in-Some.ensures.answer
+    c.requires.whole c.groups.invariant.halves c.groups.invariant.left c.groups.invariant.behind c.requires.all c.groups.invariant.groups
+    c.in-Some.ensures.groups c.in-Some.ensures.answer
 
 pub returns-in-Some-clause-around : goal.returns-in-Some-clause-around
 returns-in-Some-clause-around g c =
@@ -74,5 +74,5 @@ returns-in-Some-clause-around g c =
     c.flip_or_flush.ensures.around)
 
 pub returns-in-Some-clause-groups : goal.returns-in-Some-clause-groups
-returns-in-Some-clause-groups g c = groups_then (writer_of c.args.self.now) (writer_of c.groups.self)
+returns-in-Some-clause-groups g c = groups_then c.in-Some.reply (writer_of c.args.self.now) (writer_of c.groups.self)
     (writer_of c.flip_or_flush.new.self) c.groups.invariant.groups c.in-Some.ensures.groups

@@ -1,8 +1,8 @@
 use Rattle.std.proofs.Common.{[], ◌≡◌, ◌≤◌, None, length}
 use Rattle.store_writer.specs.Parts.{halves_of}
 use Rattle.store_writer.specs.declared.copying.Copying.TheVariants.{Steps}
-use Rattle.restart.specs.Copies.{MayFlip, Succeeds, copies_left}
-use Rattle.restart.specs.Groups.{WritesGroups}
+use Rattle.restart.specs.Copies.{Succeeds, copies_left}
+use Rattle.restart.specs.Groups.{MayFlip, WritesGroups}
 use Rattle.restart.specs.Handing.{MovesOn}
 use Rattle.restart.specs.Parts.{unhanded, unwritten, writer_of}
 use Rattle.restart.specs.Store.{CopiesAround}

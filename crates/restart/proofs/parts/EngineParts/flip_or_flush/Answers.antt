@@ -10,7 +10,8 @@ use Rattle.store_writer.specs.declared.writer.FlipReply.TheVariants.{Behind, Fli
 use Rattle.store_writer.specs.declared.writer.FlushReply.{FlushReply}
 use Rattle.store_writer.specs.declared.writer.FlushReply.TheVariants.{Flushed, LogFull, Nothing}
 use Rattle.records.specs.RecordValue.{RecordValue}
-use Rattle.restart.specs.Copies.{MayFlip, copies_left}
+use Rattle.restart.specs.Copies.{copies_left}
+use Rattle.restart.specs.Groups.{MayFlip}
 use Rattle.restart.specs.Store.{InCopy}
 use Rattle.restart.specs.declared.parts.EngineParts.{EngineParts}
 use Rattle.restart.specs.Handing.{MovesOn}
@@ -205,9 +206,11 @@ returns-in-Ok-Nothing-clause-answer g c =
       all_well past_of failures old new c.requires.all can refl refl after (omega (arith, ap (λ w. writer.synced_of w) given))
           (omega (arith, ap (λ w. failures (writer.device_of w)) given)) c.requires.sound
           (ap (λ w. writer.has_failed w) given ∙ c.requires.sound) (ap (λ w. failures (writer.device_of w)) given),
-      inr (cannot_flip old new c.requires.whole c.requires.all given
-          (may_not_flip past_of can.0 can.1 can.2 can.3 old can.4 c.requires.sound c.requires.all behind.1)
-          (inl (sym (ap (λ w. writer.waiting_of w) same) ∙ is.1))),
+      inr (cannot_flip old new c.requires.whole c.requires.all (record {
+        cannot = may_not_flip past_of can.0 can.1 can.2 can.3 old can.4 c.requires.sound c.requires.all behind.1;
+        no-group = inl (sym (ap (λ w. writer.waiting_of w) same) ∙ is.1);
+        given-up = given;
+      })),
       none_left,
       subst (λ n. n < copies_left old) (sym (one_left new none_left))
           (two_to_flip past_of can.0 can.1 can.2 can.3 old can.4 c.requires.sound c.requires.all behind.1 c.requires.whole),
@@ -269,9 +272,11 @@ returns-in-Ok-LogFull-clause-answer g c =
       all_well past_of failures old new c.requires.all can refl refl after (omega (arith, ap (λ w. writer.synced_of w) given))
           (omega (arith, ap (λ w. failures (writer.device_of w)) given)) c.requires.sound
           (ap (λ w. writer.has_failed w) given ∙ c.requires.sound) (ap (λ w. failures (writer.device_of w)) given),
-      inr (cannot_flip old new c.requires.whole c.requires.all given
-          (may_not_flip past_of can.0 can.1 can.2 can.3 old can.4 c.requires.sound c.requires.all behind.1)
-          (inr (subst (λ w. IsLogFull w) same is.1, (λ none. is.2 (ap (λ w. writer.waiting_of w) same ∙ none))))),
+      inr (cannot_flip old new c.requires.whole c.requires.all (record {
+        cannot = may_not_flip past_of can.0 can.1 can.2 can.3 old can.4 c.requires.sound c.requires.all behind.1;
+        no-group = inr (subst (λ w. IsLogFull w) same is.1);
+        given-up = given;
+      })),
       none_left,
       subst (λ n. n < copies_left old) (sym (one_left new none_left))
           (two_to_flip past_of can.0 can.1 can.2 can.3 old can.4 c.requires.sound c.requires.all behind.1 c.requires.whole),
@@ -413,7 +418,8 @@ returns-in-Ok-Flipped-clause-groups g c =
     at_once can.1 c.in-Ok-Flipped.number (writer_of old) c.checkpoint_flip.new.self flipped
 
 pub returns-in-Err-clause-groups : goal.returns-in-Err-clause-groups
-returns-in-Err-clause-groups g c = by_failure (writer_of c.args.self.now) c.checkpoint_flip.new.self c.in-Err.ensures.err.1 c.in-Err.ensures.kept
+returns-in-Err-clause-groups g c =
+    by_failure c.in-Err.error (writer_of c.args.self.now) c.checkpoint_flip.new.self c.in-Err.ensures.err.0 c.in-Err.ensures.err.1 c.in-Err.ensures.kept
 
 pub returns-in-Ok-Nothing-clause-groups : goal.returns-in-Ok-Nothing-clause-groups
 returns-in-Ok-Nothing-clause-groups g c =
@@ -425,7 +431,11 @@ returns-in-Ok-Nothing-clause-groups g c =
     let is : IsFlushReply Nothing c.checkpoint_flip.new.self c.flush_group.new.self =
     subst (λ (f : FlushReply). IsFlushReply f c.checkpoint_flip.new.self c.flush_group.new.self) c.in-Ok-Nothing.field-0-is c.in-Ok-Nothing.ensures.flushed
     in
-    by_giving_up (writer_of old) c.give_up.new.self (c.give_up.ensures.gives_up ∙ ap (writer.without_image GivenUp) (is.0 ∙ behind.0))
+    by_giving_up (writer_of old) c.give_up.new.self (record {
+      cannot = may_not_flip g.D.Device.past_of can.0 can.1 can.2 can.3 old can.4 c.requires.sound c.requires.all behind.1;
+      no-group = inl (sym (ap (λ w. writer.waiting_of w) behind.0) ∙ is.1);
+      given-up = c.give_up.ensures.gives_up ∙ ap (writer.without_image GivenUp) (is.0 ∙ behind.0);
+    })
 
 pub returns-in-Ok-LogFull-clause-groups : goal.returns-in-Ok-LogFull-clause-groups
 returns-in-Ok-LogFull-clause-groups g c =
@@ -437,8 +447,11 @@ returns-in-Ok-LogFull-clause-groups g c =
     let is : IsFlushReply LogFull c.checkpoint_flip.new.self c.flush_group.new.self =
     subst (λ (f : FlushReply). IsFlushReply f c.checkpoint_flip.new.self c.flush_group.new.self) c.in-Ok-LogFull.field-0-is c.in-Ok-LogFull.ensures.flushed
     in
-    by_giving_up (writer_of old) c.give_up-in-Ok-LogFull.new.self (c.give_up-in-Ok-LogFull.ensures.gives_up
-    ∙ ap (writer.without_image GivenUp) (is.0 ∙ behind.0))
+    by_giving_up (writer_of old) c.give_up-in-Ok-LogFull.new.self (record {
+      cannot = may_not_flip g.D.Device.past_of can.0 can.1 can.2 can.3 old can.4 c.requires.sound c.requires.all behind.1;
+      no-group = inr (subst (λ w. IsLogFull w) behind.0 is.1);
+      given-up = c.give_up-in-Ok-LogFull.ensures.gives_up ∙ ap (writer.without_image GivenUp) (is.0 ∙ behind.0);
+    })
 
 pub returns-in-Err-flush_group-clause-groups : goal.returns-in-Err-flush_group-clause-groups
 returns-in-Err-flush_group-clause-groups g c =
@@ -448,6 +461,7 @@ returns-in-Err-flush_group-clause-groups g c =
     subst (λ (r : FlipReply). IsFlipReply can.1 r (writer_of old) c.checkpoint_flip.new.self) c.in-Ok-Behind.field-0-is
     (c.in-Ok-Behind.ensures.flipped can.0 can.1 can.4.writer) in
     ⊎_elim
-    (λ none. by_none (writer_of old) c.flush_group.new.self (none.4 ∙ behind.0))
-    (λ failed. by_failure (writer_of old) c.flush_group.new.self failed.1 (c.in-Err-flush_group.ensures.kept ∙ ap (λ w. writer.synced_of w) behind.0))
+    (λ none. by_none c.in-Err-flush_group.error (writer_of old) c.flush_group.new.self none.0 (none.4 ∙ behind.0))
+    (λ failed. by_failure c.in-Err-flush_group.error (writer_of old) c.flush_group.new.self failed.0 failed.1
+    (c.in-Err-flush_group.ensures.kept ∙ ap (λ w. writer.synced_of w) behind.0))
     c.in-Err-flush_group.ensures.err
