@@ -165,7 +165,8 @@ impl<E: Entries, W: Walk> OnlineIndex<E, W> {
             × ((e ≡ Error.IndexFull) ⊎ (e ≡ Error.NoMemory))) }
         ensures unchanged { OnErr result (self.new ≡ self.old) }
     {
-        if self.get(pair).is_some() {
+        let is_there = self.get(pair).is_some();
+        if is_there {
             return Ok(false);
         }
         self.entries.set(pair, Some(Mark::Live))?;

@@ -2,7 +2,7 @@ use Rattle.std.proofs.Common.{is_some, rules, true, ◌≡◌}
 use Rattle.online_index.proofs.SetEntries.{built_there}
 use Rattle.online_index.proofs.index.OnlineIndex.build_put.Goals as goal
 
-pub returns-then-is_some-clause-ok : goal.returns-then-is_some-clause-ok
-returns-then-is_some-clause-ok g c =
+pub returns-then-is_there-clause-ok : goal.returns-then-is_there-clause-ok
+returns-then-is_there-clause-ok g c =
     let there : is_some c.get.result ≡ true = search rules in
     built_there c.args.self.now c.args.pair.now c.get.result c.get.ensures there

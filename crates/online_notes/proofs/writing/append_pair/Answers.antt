@@ -1,0 +1,11 @@
+use Rattle.std.proofs.Common.{ap, append_assoc, arith, length, rules}
+use Rattle.online_notes.proofs.Bytes.{pair_length}
+use Rattle.online_notes.proofs.writing.append_pair.Goals as goal
+use Rattle.online_notes.specs.Spelling.{page_bytes, slot_bytes}
+
+pub returns-clause-items : goal.returns-clause-items
+unfolding page_bytes slot_bytes
+returns-clause-items g c = search (rules, append_assoc)
+
+pub returns-clause-few : goal.returns-clause-few
+returns-clause-few g c = omega (arith, pair_length c.args.pair.now, c.as_slice.ensures.fits, ap length c.as_slice.ensures.value)
