@@ -5,13 +5,17 @@ Usage: tools/kill_store.py [--blocks] PROGRAM FOLDER [KILLS [SEED]]
 
 PROGRAM is the built program (crates/nsf_store/out/nsf_store, which `rt run -- --help` in crates/nsf_store makes), FOLDER an empty
 folder for the stores. Each process begins transactions, puts and deletes rows, commits, builds, cleans, takes images and flushes,
-until it is killed with SIGKILL; some are killed while they open the store, and some flush behind each commit (`--durable`). What the
-next one finds must be a prefix of the commits with all that a flush acknowledged, and each live entry must name its row. With --blocks the
+until it is killed with SIGKILL; some are killed while they open the store, and some flush behind each commit (`--durable`). A build of
+one store goes on faster than that of another. What the next one finds must be a prefix of the commits with all that a flush acknowledged, and each live entry must name its row. With --blocks the
 stores are in files of blocks.
 
 A killed process leaves what the kernel holds of its file: this tries the program, not a loss of power.
 """
 import os, random, subprocess, sys, threading, time
+
+
+# How many transactions in one are followed by a step of the builder: of a store with few, kills come amid its build.
+PACES = (0.01, 0.05, 0.8)
 
 
 class Dead(Exception):
@@ -126,7 +130,7 @@ def transaction(store, run, table, count):
     return mine, count
 
 
-def work(store, run, life, counts):
+def work(store, run, life, counts, pace):
     table, create_at, number = dict(run.base), random.randint(5, 60), 0
     while True:
         number += 1
@@ -134,7 +138,7 @@ def work(store, run, life, counts):
             store.ask("create")
         table, counts["rows"] = transaction(store, run, table, counts["rows"])
         counts["commits"] += 1
-        if random.random() < 0.8:
+        if random.random() < pace:
             store.ask("build 1")
         if random.random() < 0.03:
             store.ask("image")
@@ -174,7 +178,7 @@ def main():
     for kill in range(kills):
         if kill % 15 == 0:
             look(program, file, run)
-            file, run = f"{folder}/store{kill}", None
+            file, run, pace = f"{folder}/store{kill}", None, random.choice(PACES)
             subprocess.run([program, "new", file, "--pages", "16", "--entries", "1024", "--slots", "8", *blocks], check=True)
         elif random.random() < 0.3:
             early = Store(program, file)
@@ -193,7 +197,7 @@ def main():
         timer = threading.Timer(random.random() * 0.25, store.process.kill)
         timer.start()
         try:
-            work(store, run, life, counts)
+            work(store, run, life, counts, pace)
         except Dead:
             pass
         timer.cancel()

@@ -4,7 +4,8 @@ ghost use Rattle.record_values.specs.Refusals.{number_of};
 ghost use Rattle.store_file.specs.FileDisk.{past_of};
 ghost use Rattle.program_commands.specs.Guarded.{knows_failure, store_of};
 ghost use Rattle.program_commands.specs.Store.{OpensOn};
-ghost use Rattle.nsf_c.specs.Calls.{Is, IsMade, IsNeeded, IsNotMade, IsNotOpened, IsOpenedOn, IsRefused, sectors_of};
+ghost use Rattle.nsf_c.specs.Calls.{FailedAsMade, Is, IsDisk, IsMade, IsNeeded, IsNotMade, IsNotOpened, IsOpenedOn};
+ghost use Rattle.nsf_c.specs.Calls.{IsRefused, sectors_of};
 ghost use Rattle.nsf_c.specs.Handles.{Holds, IsOpen, IsVacant};
 ghost use Rattle.nsf_c.specs.declared.below.Below.TheVariants.{Line, Memory};
 
@@ -65,13 +66,28 @@ fn open_sectors(alloc: Global, line: i32, sectors: &[[u8; SECTOR_SIZE]]) -> Resu
     open_on(alloc, disk)
 }
 
+// A disk on which a store was made.
+fn formatted(
+    alloc: Global,
+    line: i32,
+    geometry: Geometry,
+) -> Result<FileDisk<Below, Global>, Error>
+    ensures ok { IfOk result (IsDisk (IsMade geometry)) }
+    ensures err { IfErr result (λ e. (e ≡ Error.NoMemory) ⊎ FailedAsMade geometry (number_of e)) }
+{
+    let mut disk = FileDisk::new(alloc, below(line), geometry.sectors() as usize)?;
+    match Halves::format(&mut disk, geometry) {
+        Ok(()) => Ok(disk),
+        Err(error) => Err(error),
+    }
+}
+
 // Makes a store and opens it.
 fn make(alloc: Global, line: i32, geometry: Geometry) -> Result<Box<Held>, Error>
     ensures ok { IfOk result (λ held. IsOpenedOn (IsMade geometry) held.value.store) }
     ensures err { IfErr result (λ e. IsNotMade geometry (number_of e)) }
 {
-    let mut disk = FileDisk::new(alloc, below(line), geometry.sectors() as usize)?;
-    Halves::format(&mut disk, geometry)?;
+    let disk = formatted(alloc, line, geometry)?;
     open_on(alloc, disk)
 }
 
