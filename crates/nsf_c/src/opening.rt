@@ -67,19 +67,13 @@ fn open_sectors(alloc: Global, line: i32, sectors: &[[u8; SECTOR_SIZE]]) -> Resu
 }
 
 // A disk on which a store was made.
-fn formatted(
-    alloc: Global,
-    line: i32,
-    geometry: Geometry,
-) -> Result<FileDisk<Below, Global>, Error>
+fn formatted(alloc: Global, line: i32, geometry: Geometry) -> Result<FileDisk<Below, Global>, Error>
     ensures ok { IfOk result (IsDisk (IsMade geometry)) }
     ensures err { IfErr result (λ e. (e ≡ Error.NoMemory) ⊎ FailedAsMade geometry (number_of e)) }
 {
     let mut disk = FileDisk::new(alloc, below(line), geometry.sectors() as usize)?;
-    match Halves::format(&mut disk, geometry) {
-        Ok(()) => Ok(disk),
-        Err(error) => Err(error),
-    }
+    Halves::format(&mut disk, geometry)?;
+    Ok(disk)
 }
 
 // Makes a store and opens it.
