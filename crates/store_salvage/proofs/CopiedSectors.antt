@@ -1,13 +1,12 @@
 -- What a copy of a disk of which not all can be read comes to, sector by sector.
-use Rattle.std.proofs.Common.{◌≡◌, ◌⊎◌, inl, inr, ⊎_elim, ℕ, ◌+◌, ◌<◌, ◌≤◌, Bool, true, false, List, [], ◌∷◌, ◌++◌, length}
+use Rattle.std.proofs.Common.{All, ◌≡◌, ◌⊎◌, inl, inr, ⊎_elim, ℕ, ◌+◌, ◌<◌, ◌≤◌, Bool, true, false, List, [], ◌∷◌, ◌++◌, length}
 use Rattle.std.proofs.Common.{refl, sym, ◌∙◌, ap, subst, arith}
 use Rattle.std.specs.Prelude.{Contains}
-use Rattle.std.proofs.lemmas.Bool.{cases_eq}
+use Rattle.std.proofs.lemmas.Bool.{cases_eq, cases_lt}
 use Rattle.std.proofs.lemmas.List.Elements.{All-push, All-weaker, Contains-append_left, Contains-push}
 use Rattle.std.proofs.lemmas.List.Quantifiers.{all_pairs_push}
 use Rattle.sector_device.specs.Disk.{CrashState, sector, SameOutside}
 use Rattle.sector_device.specs.DevicePast.{Rises}
-use Rattle.sector_device.proofs.Counts.{rises_later}
 use Rattle.store_salvage.specs.Copied.{AreCopiedBut, AreUnread, IsCopiedOr, IsUnread, unread_sector}
 
 -- nothing was written
@@ -59,40 +58,90 @@ was_not_read read from to n is copied = subst (λ (r : Bool). IsCopiedOr r from 
 pub none_unread : (from to : CrashState) (before : ℕ) → AreUnread [] 0 from to before before
 none_unread from to before = record {
   rising = λ i j d rises within. absurd (omega (arith, within));
+  failed = λ k. before;
+  first = refl;
+  last = refl;
+  later = λ n below. absurd (omega (arith, below));
   each = λ k d within. absurd (omega (arith, within));
 }
 
--- what was so stays so
-still_why : (P : Type 0) (a b c : ℕ) → b ≤ c → P ⊎ Rises a b → P ⊎ Rises a c
-still_why P a b c later (inl p) = inl p
-still_why P a b c later (inr rises) = inr (λ below. let up : a < b = rises below in omega (arith, up, later))
+-- one turn more: up to its beginning as before, and this count from its end on
+abbrev pick : {P Q : Type 0} → P ⊎ Q → (now before : ℕ) → ℕ
+pick (inl p) now before = now
+pick (inr q) now before = before
 
-why_now : (P : Type 0) (a b c : ℕ) → a ≤ b → b ≤ c → P ⊎ Rises b c → P ⊎ Rises a c
-why_now P a b c le later (inl p) = inl p
-why_now P a b c le later (inr rises) = inr (rises_later a b c le later rises)
+abbrev and_turn : (ℕ → ℕ) → (n now : ℕ) → ℕ → ℕ
+and_turn failed n now k = pick (cases_lt n k) now (failed k)
+
+pick_before : (n k now before : ℕ) (s : (n < k) ⊎ (k ≤ n)) → k ≤ n → pick s now before ≡ before
+pick_before n k now before (inl lt) le = absurd (omega (arith, lt, le))
+pick_before n k now before (inr ge) le = refl
+
+pick_now : (n k now before : ℕ) (s : (n < k) ⊎ (k ≤ n)) → n < k → pick s now before ≡ now
+pick_now n k now before (inl lt) past = refl
+pick_now n k now before (inr ge) past = absurd (omega (arith, ge, past))
+
+same_before : (failed : ℕ → ℕ) (n now k : ℕ) → k ≤ n → and_turn failed n now k ≡ failed k
+same_before failed n now k le = pick_before n k now (failed k) (cases_lt n k) le
+
+at_end : (failed : ℕ → ℕ) (n now : ℕ) → and_turn failed n now (n + 1) ≡ now
+at_end failed n now = pick_now n (n + 1) now (failed (n + 1)) (cases_lt n (n + 1)) (omega arith)
+
+same_why : (P : Type 0) (a b c d : ℕ) → c ≡ a → d ≡ b → P ⊎ Rises a b → P ⊎ Rises c d
+same_why P a b c d first second why = rw (first, second) why
 
 module _ (unread : List ℕ) (n : ℕ) (from now next : CrashState) (a b c : ℕ) (so_far : AreUnread unread n from now a b)
     (others : SameOutside (λ k. k ≡ n) now next) (later : b ≤ c) where
+  turns : ℕ → ℕ
+  turns = and_turn so_far.failed n c
+
+  begins_so : turns 0 ≡ a
+  unfolding turns
+  begins_so = same_before so_far.failed n c 0 (omega arith) ∙ so_far.first
+
+  still : (k : ℕ) → k ≤ n → turns k ≡ so_far.failed k
+  unfolding turns
+  still k le = same_before so_far.failed n c k le
+
+  ends_so : turns (n + 1) ≡ c
+  unfolding turns
+  ends_so = at_end so_far.failed n c
+
+  goes_on : (k : ℕ) → k < n + 1 → turns k ≤ turns (k + 1)
+  goes_on k below = ⊎_elim
+      (λ (lt : k < n). rw (still k (omega (arith, lt)), still (k + 1) (omega (arith, lt))) (so_far.later k lt))
+      (λ (ge : n ≤ k). let same : k ≡ n = omega (arith, below, ge) in
+      rw same (rw (still n (omega arith) ∙ so_far.last, ends_so) later))
+      (cases_lt k n)
+
+  all_still : All (IsUnread (n + 1) from next turns) unread
+  all_still = All-weaker (IsUnread n from now so_far.failed) (IsUnread (n + 1) from next turns)
+      (λ k is. (
+        omega (arith, is.0),
+        others.same k (λ same. omega (arith, same, is.0)) ∙ is.1,
+        same_why _ _ _ _ _ (still k (omega (arith, is.0))) (still (k + 1) (omega (arith, is.0))) is.2,
+      ))
+      unread so_far.each
+
   -- one sector more was copied
   pub still_unread : AreUnread unread (n + 1) from next a c
   still_unread = record {
     rising = so_far.rising;
-    each = All-weaker (IsUnread n from now a b) (IsUnread (n + 1) from next a c)
-        (λ k is. (omega (arith, is.0), others.same k (λ same. omega (arith, same, is.0)) ∙ is.1, still_why _ a b c later is.2))
-        unread so_far.each;
+    failed = turns;
+    first = begins_so;
+    last = ends_so;
+    later = goes_on;
+    each = all_still;
   }
 
   -- and can't be read
-  pub unread_next : a ≤ b → sector next n ≡ unread_sector → (length from ≤ n) ⊎ Rises b c → AreUnread (unread ++ n ∷ []) (n + 1) from next a c
-  unread_next le this why = record {
+  pub unread_next : sector next n ≡ unread_sector → (length from ≤ n) ⊎ Rises b c → AreUnread (unread ++ n ∷ []) (n + 1) from next a c
+  unread_next this why = record {
     rising = all_pairs_push (λ k m. k < m) unread n so_far.rising (λ k d within. (so_far.each k d within).0);
-    each = All-push (IsUnread (n + 1) from next a c) unread n still_unread.each (omega arith, this, why_now _ a b c le later why);
+    failed = turns;
+    first = begins_so;
+    last = ends_so;
+    later = goes_on;
+    each = All-push (IsUnread (n + 1) from next turns) unread n all_still
+        (omega arith, this, same_why _ _ _ _ _ (still n (omega arith) ∙ so_far.last) ends_so why);
   }
-
--- of all sectors
-pub unread_all : (unread : List ℕ) (n sectors : ℕ) (from to : CrashState) (a b : ℕ) → n ≤ sectors → AreUnread unread n from to a b
-    → AreUnread unread sectors from to a b
-unread_all unread n sectors from to a b le so_far = record {
-  rising = so_far.rising;
-  each = All-weaker (IsUnread n from to a b) (IsUnread sectors from to a b) (λ k is. (omega (arith, is.0, le), is.1, is.2)) unread so_far.each;
-}

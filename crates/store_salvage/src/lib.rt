@@ -7,9 +7,9 @@
 //! records that the log still has, with every unfinished transaction taken back: the reader's own words say so
 //! (`Gives`). Each refusal has its state; `Damaged` comes where a reader names no such part (`refused`).
 //! `copy_readable` copies what can be read of a disk. It tells the other sectors, in order, and fills them with bytes
-//! that say nothing (`copied`, `unread`).
+//! that say nothing (`copied`). Each was told as the disk ends before it, or for a failed call of its own (`unread`).
 //!
-//! Neither: that as little is lost as can be, or that nothing is synced.
+//! Neither: that as little is lost as can be, that nothing is synced, or of which sector a call was that failed.
 #![tactic(auto)]
 
 mod blank;

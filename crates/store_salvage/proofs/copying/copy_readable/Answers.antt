@@ -4,7 +4,7 @@ use Rattle.sector_device.specs.Disk.{CrashState, Disk, sector}
 use Rattle.sector_device.specs.DevicePast.{Rises}
 use Rattle.sector_device.proofs.Within.{reads_none, reads_then}
 use Rattle.store_salvage.specs.Copied.{AreCopiedBut, AreUnread}
-use Rattle.store_salvage.proofs.CopiedSectors.{copied_more, none_unread, rest_more, same_here, still_unread, unread_all, unread_more, unread_next}
+use Rattle.store_salvage.proofs.CopiedSectors.{copied_more, none_unread, rest_more, same_here, still_unread, unread_more, unread_next}
 use Rattle.store_salvage.proofs.CopiedSectors.{was_not_read, was_read}
 use Rattle.store_salvage.proofs.copying.copy_readable.Goals as goal
 
@@ -62,7 +62,7 @@ loop-n-preserved g c =
           (was_not_read c.in-Ok.is_read there next n c.if-is_read.false done.copied));
       unread = subst (λ (l : List ℕ). AreUnread l (n + 1) from next (f c.args.from.now) (f c.copy_sector.new.from)) (sym c.in_ok-push.ensures.items)
           (unread_next unread n from now next (f c.args.from.now) (f c.loop-n.from) (f c.copy_sector.new.from) so_far.unread
-          c.copy_sector.ensures.others c.copy_sector.ensures.later so_far.later
+          c.copy_sector.ensures.others c.copy_sector.ensures.later
           (was_not_read c.in-Ok.is_read there next n c.if-is_read.false done.copied)
           (subst (λ (m : ℕ). (m ≤ n) ⊎ Rises (f c.loop-n.from) (f c.copy_sector.new.from)) long (done.unread c.if-is_read.false)));
       rest = rest_more n c.args.sectors (w c.args.to.now).disk.content now next c.loop-n-test.true so_far.rest c.copy_sector.ensures.others;
@@ -74,9 +74,12 @@ loop-n-preserved g c =
 pub returns : goal.returns
 returns g c =
     let so_far = c.loop-n.invariant in
+    let f = g.O.Device.failures in
+    let all : c.loop-n.n ≡ c.args.sectors = omega (arith, c.loop-n.auto.n-end, c.loop-n-test.false) in
     record {
       copied = λ n below. so_far.copied n (omega arith);
-      unread = unread_all _ _ _ _ _ _ _ (omega (arith, c.loop-n.auto.n-end)) so_far.unread;
+      unread = subst (λ (n : ℕ). AreUnread c.loop-n.unread.items n (g.O.Device.past_of c.args.from.now).disk.content
+          (g.N.Device.past_of c.loop-n.to).disk.content (f c.args.from.now) (f c.loop-n.from)) all so_far.unread;
       rest = so_far.rest;
       kept = so_far.reads;
       refused = tt;
