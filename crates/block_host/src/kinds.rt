@@ -45,9 +45,9 @@ fn begins(content: &[[u8; SECTOR_SIZE]], n: usize, text: &[u8]) -> bool
     n < content.len() && content[n].starts_with(text)
 }
 
-// Whether these sectors of a file are those of a file of blocks. Its first block may be damaged, and then its second
-// one tells.
-fn are_blocks(content: &[[u8; SECTOR_SIZE]]) -> bool
+/// Whether these sectors of a file are those of a file of blocks. Its first block may be damaged, and then its second
+/// one tells.
+pub fn are_blocks(content: &[[u8; SECTOR_SIZE]]) -> bool
     ensures { result ≡ are_blocks content.now }
 {
     begins(content, 0, BLOCKS)

@@ -33,8 +33,8 @@ mod waiting;
 pub use device::{FileDevice, InFile};
 pub use error::DiskError;
 pub use kinds::{
-    HeldDevice, OpenDevice, ReadDevice, device_in, hold_device, hold_whole_device, open_device,
-    read_device,
+    HeldDevice, OpenDevice, ReadDevice, are_blocks, device_in, hold_device, hold_whole_device,
+    open_device, read_device,
 };
 pub use making::plan_with;
 pub use mirror::FileBlocks;

@@ -59,7 +59,6 @@ fn told_of(put: Result<u16, FileError>) -> &'static str {
         Err(FileError::Store(Error::NotFormatted)) => "NotFormatted",
         Err(FileError::File(OpenError::BadLength(11))) => "BadLength 11",
         Err(FileError::File(OpenError::DraftExists)) => "DraftExists",
-        Err(FileError::File(OpenError::DraftEmpty)) => "DraftEmpty",
         Err(FileError::File(OpenError::NotAFile)) => "NotAFile",
         Err(FileError::File(OpenError::Io(Trouble::System(2)))) => "System 2",
         Err(_) => "another refusal",
@@ -106,11 +105,10 @@ fn a_store_is_made_in_a_file_and_opened_again(rt: HostRuntime) {
 const JUNK: &[u8] = &[7; 2 * SECTOR_SIZE];
 
 // A file, and its bytes; the file into whose store a row is put then; and what that comes to.
-static REFUSED: [(&str, &[u8], &str, &str); 6] = [
+static REFUSED: [(&str, &[u8], &str, &str); 5] = [
     ("text", b"not a store", "text", "BadLength 11"),
     ("junk", JUNK, "junk", "NotFormatted"),
     ("left.new", b"half", "left", "DraftExists"),
-    ("left.new", b"", "left", "DraftEmpty"),
     ("text", b"", ".", "NotAFile"),
     ("text", b"", "none/store", "System 2"),
 ];
