@@ -43,42 +43,48 @@ const FIRST: Rid = Rid { page: 0, slot: 0 };
 
 const KEY: &[u8] = b"ant";
 
-// What is seen while there is no complete index.
-const fn unindexed(row: (bool, bool), rows: usize, life: u8) -> Seen {
-    Seen {
-        row,
-        places: (REFUSED, REFUSED),
-        pairs: (REFUSED, REFUSED, REFUSED),
-        counts: (REFUSED as u64, rows),
-        life,
-    }
+// What is to be seen: without a complete index the row at the first place, how many rows there are, and how far the
+// index is; with one the row, and how many places the key has, of which all pairs are.
+#[derive(Clone, Copy)]
+enum Wanted {
+    Unindexed((bool, bool), usize, u8),
+    Indexed((bool, bool), (usize, usize)),
 }
 
-// What is seen with a complete index, where forward and backward the same is.
-const fn indexed(row: (bool, bool), places: (usize, usize)) -> Seen {
-    let (all, committed) = places;
-    Seen {
-        row,
-        places,
-        pairs: (all, all, committed),
-        counts: (all as u64, all),
-        life: 2,
+impl Wanted {
+    fn seen(self) -> Seen {
+        match self {
+            Wanted::Unindexed(row, rows, life) => Seen {
+                row,
+                places: (REFUSED, REFUSED),
+                pairs: (REFUSED, REFUSED, REFUSED),
+                counts: (REFUSED as u64, rows),
+                life,
+            },
+            Wanted::Indexed(row, (all, committed)) => Seen {
+                row,
+                places: (all, committed),
+                pairs: (all, all, committed),
+                counts: (all as u64, all),
+                life: 2,
+            },
+        }
     }
 }
 
 // A row is put and committed; the index is created, and built; another row with the same key is put, and the first one
 // deleted; that is committed, and the index is dropped.
-static STEPS: [(Act, Seen); 10] = [
-    (Act::Begin, unindexed((false, false), 0, 0)),
-    (Act::Put(KEY), unindexed((true, false), 1, 0)),
-    (Act::Commit, unindexed((true, true), 1, 0)),
-    (Act::Create, unindexed((true, true), 1, 1)),
-    (Act::Build, indexed((true, true), (1, 1))),
-    (Act::Begin, indexed((true, true), (1, 1))),
-    (Act::Put(KEY), indexed((true, true), (2, 1))),
-    (Act::DeleteFirst, indexed((false, true), (1, 1))),
-    (Act::Commit, indexed((false, false), (1, 1))),
-    (Act::Drop, unindexed((false, false), 1, 0)),
+static STEPS: [(Act, Wanted); 10] = [
+    (Act::Begin, Wanted::Unindexed((false, false), 0, 0)),
+    (Act::Put(KEY), Wanted::Unindexed((true, false), 1, 0)),
+    (Act::Commit, Wanted::Unindexed((true, true), 1, 0)),
+    (Act::Create, Wanted::Unindexed((true, true), 1, 1)),
+    (Act::Build, Wanted::Indexed((true, true), (1, 1))),
+    (Act::Begin, Wanted::Indexed((true, true), (1, 1))),
+    (Act::Put(KEY), Wanted::Indexed((true, true), (2, 1))),
+    (Act::DeleteFirst, Wanted::Indexed((false, true), (1, 1))),
+    (Act::Commit, Wanted::Indexed((false, false), (1, 1))),
+    (Act::Drop, Wanted::Unindexed((false, false), 1, 0)),
 ];
 
 // ---- what is seen
@@ -94,7 +100,7 @@ fn rows_at_first<B: Group, R: Wait>(
 }
 
 // How many there are, or that they are refused.
-fn length_of<T>(found: Result<Vec<T>, Error>) -> usize {
+fn length_of<T: Drop>(found: Result<Vec<T>, Error>) -> usize {
     match found {
         Ok(found) => {
             let length = found.len();
@@ -259,7 +265,7 @@ fn do_all<B: Group, R: Wait>(
     let mut all = true;
     for (step, wanted) in &STEPS {
         begun = act(rt, shared, (&mut seat, &mut parts.build), begun, *step)?;
-        all = all && look(rt, alloc, shared, &mut other, key) == *wanted;
+        all = all && look(rt, alloc, shared, &mut other, key) == wanted.seen();
     }
     Ok(all)
 }

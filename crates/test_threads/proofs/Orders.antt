@@ -1,8 +1,10 @@
 -- Seats in their order.
-use Rattle.std.proofs.Common.{◌≡◌, ◌∙◌, ◌++◌, ◌∷◌, ℕ, List, [], Some, ap, length, map, refl, subst, sym}
+use Rattle.std.proofs.Common.{◌≡◌, ◌∙◌, ◌++◌, ◌∷◌, ℕ, List, [], Some, ap, length, length-append, map, refl, subst, sym}
 use Rattle.std.proofs.lemmas.List.{length-map}
 use Rattle.std.specs.Prelude.{slice_get}
 use Rattle.atomic_table.specs.Seated.{TableId}
+use Rattle.threads_lifetime.specs.Gathered.{AreAllSeats}
+use Rattle.threads_lifetime.proofs.Orders.{one_more}
 use Rattle.shared.specs.Seats.{AreNewSeats, SeatValue}
 
 -- what stands behind a list
@@ -30,3 +32,10 @@ pub one_seated : {C : Type 0} (seat : C → SeatValue) (before now : List C) (c 
     → first ≡ seat c ∷ rest → map seat before ++ first ≡ all → map seat now ++ rest ≡ all
 one_seated seat before now c first rest all one next so_far =
     ap (λ cs. map seat cs ++ rest) one ∙ (one_behind seat before c rest ∙ (ap (λ xs. map seat before ++ xs) (sym next) ∙ so_far))
+
+-- one seat more, of the next number
+pub one_pushed : (seats pushed : List SeatValue) (s : SeatValue) → pushed ≡ seats ++ s ∷ [] → AreAllSeats (length seats) seats → s.number ≡ length seats
+    → AreAllSeats (length pushed) pushed
+one_pushed seats pushed s e all next =
+    subst (λ (xs : List SeatValue). AreAllSeats (length xs) xs) (sym e)
+    (subst (λ (n : ℕ). AreAllSeats n (seats ++ s ∷ [])) (sym (length-append seats (s ∷ []))) (one_more (length seats) seats s all next))
