@@ -151,21 +151,20 @@ struct Stopped {
 }
 
 // Opens the store that a crash left on the disk, once a restart was stopped at this of its calls, and the one after it
-// too. What is held then, and whether a restart was stopped.
+// too. What is held then, whether a restart was stopped, and the disk.
 fn held_at_last<M: StoreMemory>(
     rt: &impl Abort,
     memory: M,
     mut disk: Disk,
     case: Case,
     call: u64,
-) -> Result<(Contents, bool), Error> {
+) -> (Contents, bool, Disk) {
     for stops in 0..3u8 {
         let fails_at = if stops < 2 { call } else { 0 };
         match memory.open(disk.failing(case.which, fails_at)) {
             Ok(store) => {
                 let held = store.contents();
-                drop(store.close());
-                return Ok((held, stops > 0));
+                return (held, stops > 0, store.close());
             }
             Err((error, stopped)) => {
                 claim(rt, error == Error::DeviceFailed, "a device that fails");
@@ -213,15 +212,20 @@ fn stop_restarts<M: StoreMemory>(
     call: u64,
     left: &Contents,
 ) -> Result<u64, Error> {
+    let mut used = disk.blank()?;
     let mut restart_call = first_call(case, call);
     for calls in 0..CALLS {
-        let (held, stopped) = held_at_last(rt, memory, disk.copy()?, case, restart_call)?;
+        let stops = held_at_last(rt, memory, used.made_as(disk)?, case, restart_call);
+        let (held, stopped, left_over) = stops;
+        used = left_over;
         claim_at(rt, held == *left, "the same after call", call);
         if !stopped {
+            drop(used);
             return Ok(calls);
         }
         restart_call = restart_call.saturating_add(case.every);
     }
+    drop(used);
     rt.panic("more calls of a restart")
 }
 
@@ -238,7 +242,9 @@ fn stop_at<M: StoreMemory>(
     call: u64,
 ) -> Result<Stopped, Error> {
     let (told, mut disk) = stop_run(rt, memory, alloc, whole, case, call)?;
-    let (left, _) = held_at_last(rt, memory, disk.copy()?, case, 0)?;
+    let copy = disk.blank()?.made_as(&mut disk)?;
+    let (left, _, used) = held_at_last(rt, memory, copy, case, 0);
+    drop(used);
     let calls = stop_restarts(rt, memory, &mut disk, case, call, &left)?;
     drop(disk);
     let met = calls.saturating_mul(case.every);

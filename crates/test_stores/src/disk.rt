@@ -43,12 +43,15 @@ fn holds<D: Device>(device: &mut D, edits: &[Edit<'_>], first: u64, end: u64) ->
     true
 }
 
-// Writes into each sector of a device what the same one of another holds, and syncs it.
-fn copy_all<D: Device, E: Device>(from: &mut D, to: &mut E) -> Result<(), Error> {
+// Makes each sector of a device hold what the same one of another does, and syncs it.
+fn make_same<D: Device, E: Device>(from: &mut D, to: &mut E) -> Result<(), Error> {
     let mut sector = [0; SECTOR_SIZE];
+    let mut other = [0; SECTOR_SIZE];
     for n in 0..from.sectors() {
-        let copied = is_read(from, n, &mut sector) && is_written(to, n, &sector);
-        if !copied {
+        if !is_read(from, n, &mut sector) || !is_read(to, n, &mut other) {
+            return Err(Error::DeviceFailed);
+        }
+        if sector != other && !is_written(to, n, &sector) {
             return Err(Error::DeviceFailed);
         }
     }
@@ -128,13 +131,18 @@ impl Disk {
         }
     }
 
-    /// Another disk whose sectors hold what those of this one do, all synced. No call of it fails.
-    pub fn copy(&mut self) -> Result<Disk, Error> {
-        let mut copy = Disk::bare(self.alloc, self.device.sectors())?;
-        match copy_all(&mut self.device, &mut copy.device) {
-            Ok(()) => Ok(copy),
+    /// Another disk of as many sectors, all zeros. No call of it fails.
+    pub fn blank(&self) -> Result<Disk, Error> {
+        Disk::bare(self.alloc, self.device.sectors())
+    }
+
+    /// This disk, once its sectors hold what those of the other do, all synced. No call of it fails.
+    pub fn made_as(self, other: &mut Disk) -> Result<Disk, Error> {
+        let mut disk = self.failing(Which::All, 0);
+        match make_same(&mut other.device, &mut disk.device) {
+            Ok(()) => Ok(disk.crash(Fate::New)),
             Err(error) => {
-                drop(copy);
+                drop(disk);
                 Err(error)
             }
         }

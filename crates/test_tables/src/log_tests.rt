@@ -27,9 +27,10 @@ struct Noting<D> {
 
 impl<D> Noting<D> {
     fn new(device: D) -> Noting<D> {
+        let calls = [0; 32];
         Noting {
             device,
-            calls: [0; 32],
+            calls,
             made: 0,
         }
     }
@@ -75,14 +76,22 @@ impl<D: Device> Device for Noting<D> {
     }
 }
 
+// How many calls were made before each of three groups.
+#[derive(Clone, Copy)]
+struct Made {
+    cleared: usize,
+    added: usize,
+    both: usize,
+}
+
 // Clears the log and adds two groups of the records, and then one more, for which there is no room. How many calls were
-// made before each, and whether all went so.
+// made before each, if all went so.
 fn add_groups<D: Device, A: Allocator + Copy>(
     rt: &impl Abort,
     alloc: A,
     disk: &mut Noting<D>,
     records: &[Record],
-) -> Result<([usize; 3], bool), Error> {
+) -> Result<Option<Made>, Error> {
     assert!(rt; disk.sectors() == SECTORS && fits(records));
     let mut log = LogArea::new(FIRST, SLOTS);
     log.clear(disk)?;
@@ -93,16 +102,20 @@ fn add_groups<D: Device, A: Allocator + Copy>(
     let both = disk.made;
     let third = log.append(alloc, disk, records)?;
     let all = first == Appended::Done && second == Appended::Done && third == Appended::Full;
-    Ok(([cleared, added, both], all))
+    let made = Made {
+        cleared,
+        added,
+        both,
+    };
+    Ok(if all { Some(made) } else { None })
 }
 
 // Whether each group takes just those calls, and one that has no room none.
-fn takes_these<D: Device>(disk: &Noting<D>, made: [usize; 3]) -> bool {
-    let [cleared, added, both] = made;
-    disk.since(both).is_empty()
-        && disk.since(added) == GROUP
-        && disk.since(cleared).starts_with(GROUP)
-        && disk.since(cleared).len() == 2 * GROUP.len()
+fn takes_these<D: Device>(disk: &Noting<D>, made: Made) -> bool {
+    disk.since(made.both).is_empty()
+        && disk.since(made.added) == GROUP
+        && disk.since(made.cleared).starts_with(GROUP)
+        && disk.since(made.cleared).len() == 2 * GROUP.len()
 }
 
 // Adds a group of so many of the records to a log.
@@ -112,10 +125,9 @@ fn count_calls<A: Allocator + Copy>(
     records: &[Record],
 ) -> Result<bool, Error> {
     let mut disk = Noting::new(MemDisk::new(alloc, SECTORS, 64)?);
-    let added = add_groups(rt, alloc, &mut disk, records);
-    let counted = match added {
-        Ok((made, all)) => all && takes_these(&disk, made),
-        Err(_) => false,
+    let counted = match add_groups(rt, alloc, &mut disk, records) {
+        Ok(Some(made)) => takes_these(&disk, made),
+        _ => false,
     };
     forget(disk);
     Ok(counted)

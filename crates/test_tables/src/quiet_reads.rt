@@ -44,11 +44,13 @@ fn is_above(last: &Option<Pair>, pair: &Pair) -> bool {
 fn handed_in_order<A: Allocator + Copy>(scan: &mut Scan<A>) -> u32 {
     let mut last = None;
     for handed in 0..=PAIRS {
-        let next = hand_out(scan);
-        match next {
-            Some(pair) if is_above(&last, &pair) => last = next,
-            _ => return handed,
+        let Some(pair) = hand_out(scan) else {
+            return handed;
+        };
+        if !is_above(&last, &pair) {
+            return u32::MAX;
         }
+        last = Some(pair);
     }
     u32::MAX
 }
@@ -184,7 +186,8 @@ fn read_and_detach<A: Allocator + Copy>(
     rt: &impl Abort,
     memory: &Memory,
     core: &mut Core<A>,
-    (first, second): (Row, Row),
+    first: Row,
+    second: Row,
 ) -> Result<(), Error> {
     put_two(rt, core, first, second)?;
     build(core)?;
@@ -204,9 +207,10 @@ pub(crate) fn use_reads<A: Allocator + Copy>(
     memory: &Memory,
     within: A,
 ) -> Result<(), Error> {
-    let rows = (row_of(7)?, row_of(8)?);
+    let first = row_of(7)?;
+    let second = row_of(8)?;
     let mut core = new_core(within)?;
-    let used = read_and_detach(rt, memory, &mut core, rows);
+    let used = read_and_detach(rt, memory, &mut core, first, second);
     forget(core);
     used
 }

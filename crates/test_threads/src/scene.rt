@@ -30,7 +30,7 @@ fn open<D: Device + Drop>(alloc: Global, device: D) -> Result<OpenStore<D>, Erro
             forget(engine);
             match refused {
                 OpenError::Refused(error) => Err(error),
-                OpenError::Unsound => Err(Error::Stopped),
+                _ => Err(Error::Stopped),
             }
         }
     }

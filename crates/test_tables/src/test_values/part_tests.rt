@@ -116,6 +116,7 @@ fn row_of(key: usize, body: usize) -> Result<Row, Error> {
 // Whether the row is spelled so: a 1, the key and the body, each after its length, and zeros after each.
 fn is_row_of(key: usize, body: usize) -> Result<bool, Error> {
     let row = row_of(key, body)?;
+    let spelled = spell_row(&Some(row));
     let lengths = [1, key as u8, body as u8];
     let pieces: [(usize, &[u8]); 4] = [
         (0, &lengths[..2]),
@@ -123,7 +124,7 @@ fn is_row_of(key: usize, body: usize) -> Result<bool, Error> {
         (58, &lengths[2..]),
         (59, row.body.as_slice()),
     ];
-    Ok(spell_row(&Some(row)) == bytes_of::<128>(&pieces))
+    Ok(spelled == bytes_of::<128>(&pieces))
 }
 
 // Whether a row of each length is spelled so, and a longer key and a longer body are refused.
