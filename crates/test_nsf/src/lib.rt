@@ -6,8 +6,9 @@
 //! allocation is refused. What is found is what a plain program makes of the replies. And a day of clients that is
 //! stopped at each moment since its opening began, or while the rest is written out.
 //!
-//! Stores in files: one that is made and opened again, and files that are refused. And what is committed of a store
-//! while a transaction changes it.
+//! Stores in files: one that is made and opened again, and files that are refused. What is committed of a store while a
+//! transaction changes it, and what one seat sees of what another does. A store that is opened again after its threads,
+//! and one of version 1 that lives on.
 //!
 //! Proved: the clauses of `Device` and `Mortal` for that disk; of the tests safety, and that the contracts suffice for
 //! such a caller.

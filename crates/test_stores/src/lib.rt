@@ -1,8 +1,9 @@
 //! Tests of stores in memory: of `restart`, which opens and serves them, and of the versions of their format.
 //!
-//! Each allocation is refused in turn, and each call of the device fails in turn, with each fate; damaged stores are
-//! refused by name. Images are taken, and an index is built over every place. Stores of version 1, written by the
-//! format's text, are moved and hindered.
+//! Each allocation is refused in turn, and each call of the device fails in turn, with each fate, and after it each
+//! write and sync of two restarts; damaged stores are refused by name. The calls of the device are counted that a group
+//! takes. Images are taken, and an index is built over every place. Stores of version 1, written by the format's text,
+//! are moved, harmed and hindered.
 //!
 //! Proved of them is safety. What a test ends with is left (`forget`): to prove that it is let go costs more than the
 //! test. `test_files` has the tests of stores in files.
