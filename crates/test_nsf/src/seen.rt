@@ -222,7 +222,7 @@ fn change<B: Group, R: Wait>(
 }
 
 // Does it, in the transaction that began last, if there is one. That transaction.
-fn act<B: Group, R: Wait>(
+fn make_step<B: Group, R: Wait>(
     rt: &R,
     shared: &Shared<B>,
     (seat, build): (&mut Seat<B>, &mut BuildPart<B>),
@@ -264,7 +264,7 @@ fn do_all<B: Group, R: Wait>(
     let mut begun = None;
     let mut all = true;
     for (step, wanted) in &STEPS {
-        begun = act(rt, shared, (&mut seat, &mut parts.build), begun, *step)?;
+        begun = make_step(rt, shared, (&mut seat, &mut parts.build), begun, *step)?;
         all = all && look(rt, alloc, shared, &mut other, key) == wanted.seen();
     }
     Ok(all)

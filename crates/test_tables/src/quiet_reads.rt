@@ -112,12 +112,12 @@ const SECOND: Rid = Rid { page: 0, slot: 1 };
 fn put_two<A: Allocator + Copy>(
     rt: &impl Abort,
     core: &mut Core<A>,
-    first: Row,
-    second: Row,
+    first: &Row,
+    second: &Row,
 ) -> Result<(), Error> {
     let txn = core.begin()?;
-    insert(rt, core, txn, first)?;
-    insert(rt, core, txn, second)?;
+    insert(rt, core, txn, *first)?;
+    insert(rt, core, txn, *second)?;
     commit(rt, core, txn)
 }
 
@@ -139,8 +139,8 @@ fn delete_first<A: Allocator + Copy>(rt: &impl Abort, core: &mut Core<A>) -> Res
 }
 
 // A row that waits to be gone is no longer read, but it is committed.
-fn is_still_committed<A: Allocator + Copy>(core: &Core<A>, row: Row) -> bool {
-    core.get(FIRST).is_none() && get_committed(core, FIRST) == Some(row)
+fn is_still_committed<A: Allocator + Copy>(core: &Core<A>, row: &Row) -> bool {
+    core.get(FIRST).is_none() && get_committed(core, FIRST) == Some(*row)
 }
 
 fn counts<A: Allocator + Copy>(core: &Core<A>) -> Counts {
@@ -148,7 +148,7 @@ fn counts<A: Allocator + Copy>(core: &Core<A>) -> Counts {
 }
 
 // Both entries stand together, and the last of them is the second row's.
-fn are_entries<A: Allocator + Copy>(core: &Core<A>, second: Row) -> bool {
+fn are_entries<A: Allocator + Copy>(core: &Core<A>, second: &Row) -> bool {
     let last = Pair {
         key: second.key,
         rid: SECOND,
@@ -161,7 +161,7 @@ fn count_visible<A: Allocator + Copy>(core: &Core<A>) -> Result<u64, Error> {
 }
 
 // What is read of a core with two entries, of which one is marked. The cleaner's place is moved too.
-fn read_core<A: Allocator + Copy>(rt: &impl Abort, core: &mut Core<A>, first: Row, second: Row) {
+fn read_core<A: Allocator + Copy>(rt: &impl Abort, core: &mut Core<A>, first: &Row, second: &Row) {
     let wanted = Counts {
         rows: 1,
         entries: 2,
@@ -186,8 +186,8 @@ fn read_and_detach<A: Allocator + Copy>(
     rt: &impl Abort,
     memory: &Memory,
     core: &mut Core<A>,
-    first: Row,
-    second: Row,
+    first: &Row,
+    second: &Row,
 ) -> Result<(), Error> {
     put_two(rt, core, first, second)?;
     build(core)?;
@@ -210,7 +210,7 @@ pub(crate) fn use_reads<A: Allocator + Copy>(
     let first = row_of(7)?;
     let second = row_of(8)?;
     let mut core = new_core(within)?;
-    let used = read_and_detach(rt, memory, &mut core, first, second);
+    let used = read_and_detach(rt, memory, &mut core, &first, &second);
     forget(core);
     used
 }

@@ -73,7 +73,7 @@ fn delete_first<C: Calls>(seat: &mut C) -> Result<bool, Error> {
 
 impl Acting {
     // Does it. Whether it was done.
-    fn act<C: Calls>(&mut self, seat: &mut C) -> Result<bool, Error> {
+    fn do_act<C: Calls>(&mut self, seat: &mut C) -> Result<bool, Error> {
         match self.act {
             Act::Create => {
                 self.ticket = Some(set_up(seat)?);
@@ -93,12 +93,12 @@ impl Acting {
 
 impl Player for Acting {
     fn play<C: Calls>(&mut self, seat: &mut C) {
-        self.done = matches!(self.act(seat), Ok(true));
+        self.done = matches!(self.do_act(seat), Ok(true));
     }
 }
 
 // Lets the seat do so. Whether it was done, and the ticket of the creation.
-fn act<B: Group, R: Wait>(
+fn let_act<B: Group, R: Wait>(
     rt: &R,
     shared: &Shared<B>,
     at: &mut Numbered<B, Global>,
@@ -148,7 +148,7 @@ impl<B: Group, R: Wait> Gate for Meeting<'_, B, R> {
             return;
         }
         if let Some(mut at) = self.seat.replace(None) {
-            let (done, _) = act(self.rt, self.shared, &mut at, self.act);
+            let (done, _) = let_act(self.rt, self.shared, &mut at, self.act);
             self.done.set(done);
             forget(self.seat.replace(Some(at)));
         }
@@ -167,9 +167,9 @@ fn build_and_clean<B: Group, R: Wait>(
     build: &mut BuildPart<B>,
     clean: &mut CleanPart<B>,
 ) -> bool {
-    let (created, _) = act(rt, shared, &mut at, Act::Create);
+    let (created, _) = let_act(rt, shared, &mut at, Act::Create);
     let built = build_loop(rt, shared, build, &NoGate);
-    let (deleted, _) = act(rt, shared, &mut at, Act::Delete);
+    let (deleted, _) = let_act(rt, shared, &mut at, Act::Delete);
     let meeting = (Point::CleanStep, Act::StopOnceClean);
     let gate = Meeting::new(rt, shared, at, meeting);
     clean_loop(rt, shared, clean, &gate);
@@ -190,7 +190,7 @@ fn build_dropped<B: Group, R: Wait>(
     mut at: Numbered<B, Global>,
     build: &mut BuildPart<B>,
 ) -> bool {
-    let (created, _) = act(rt, shared, &mut at, Act::Create);
+    let (created, _) = let_act(rt, shared, &mut at, Act::Create);
     let gate = Meeting::new(rt, shared, at, (Point::BuildScanned, Act::Drop));
     let refused = build_loop(rt, shared, build, &gate).err();
     let dropped = gate.done.get();
@@ -205,7 +205,7 @@ fn flush_all<B: Group, D: Device, R: Wait>(
     mut at: Numbered<B, Global>,
     flush: &mut FlushPart<B, D>,
 ) -> bool {
-    let (_, ticket) = act(rt, shared, &mut at, Act::Create);
+    let (_, ticket) = let_act(rt, shared, &mut at, Act::Create);
     let Some(ticket) = ticket else {
         forget(at);
         return false;
