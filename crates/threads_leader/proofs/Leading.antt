@@ -5,25 +5,23 @@ use Rattle.record_values.specs.declared.error.Error.{Error}
 use Rattle.record_values.specs.declared.error.Error.TheVariants.{DeviceFailed}
 use Rattle.core_model.specs.Histories.{Opened}
 use Rattle.sector_device.specs.DevicePast.{DevicePast}
-use Rattle.store_writer.specs.Parts.{copying_of, has_failed}
-use Rattle.store_writer.specs.declared.copying.Copying.TheVariants.{Idle}
-use Rattle.threads_loops.specs.Going.{LeavesImage}
+use Rattle.store_writer.specs.Parts.{has_failed}
 use Rattle.threads_loops.specs.Part.{FlushValue, IsFlusher, LooksForStop}
 use Rattle.threads_loops.proofs.Taking.{took_look}
 use Rattle.threads_loops.specs.Copying.{StandsBy}
-use Rattle.threads_loops.specs.Through.{HasFlushed, PassesThrough, RunsThrough}
+use Rattle.threads_loops.specs.Through.{HasFlushed, PassesThrough, RunsThrough, taken_up}
 use Rattle.threads_loops.proofs.Rounds.{stands_by_taking}
 use Rattle.threads_loops.proofs.Running.{goes_by_running}
-use Rattle.threads_loops.proofs.Through.{through_forgetting, through_taking, through_then}
+use Rattle.threads_loops.proofs.Through.{through_taking, through_taking_up, through_then}
 use Rattle.threads_leader.specs.Led.{IsLed}
 
 module _ {D A : Type 0} {marks : ℕ → ℕ → Type 0} (past_of : D → DevicePast) (failures : D → ℕ) (o : Opened) (begun : Option (FlushValue D A)) where
-  pub led_first : (old new : FlushValue D A) → begun ≡ Some old → LeavesImage Idle old new → IsLed past_of marks failures o begun new
-  led_first old new begins leaves = record {
+  pub led_first : (old new : FlushValue D A) → begun ≡ Some old → new ≡ taken_up old → StandsBy new → IsLed past_of marks failures o begun new
+  led_first old new begins up stands = record {
     first = old;
     begins = begins;
-    through = through_forgetting past_of failures o old new leaves;
-    copying = λ _ copied. absurd (copied (ap (λ (f : FlushValue D A). copying_of f.writer) leaves));
+    through = through_taking_up past_of failures o old new up;
+    copying = stands;
   }
 
   -- it looked whether it is to stop

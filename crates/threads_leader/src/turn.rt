@@ -7,7 +7,9 @@ use sector_device::Device;
 use std::alloc::Global;
 use std::marker::{Model, PhantomData};
 use std::sync::Wait;
-use threads_loops::{FlushPart, Found, Gate, Group, Memory, RoundsMade, Shared, flush_round};
+use threads_loops::{
+    FlushPart, Found, Gate, Group, Memory, RoundsMade, Shared, flush_round, take_up,
+};
 
 /// What came of it that a thread was to make a round.
 #[derive(Clone, Copy)]
@@ -51,11 +53,11 @@ impl<C: Course<D, A>, B: Group, D: Device, A: Memory> Model for Turn<C, B, D, A>
 }
 
 impl<C: Course<D, A>, B: Group, D: Device, A: Memory> Turn<C, B, D, A> {
-    /// The part as it begins. An image of an earlier run is forgotten.
+    /// The part as it begins. It goes on with an image of an earlier run.
     pub(crate) fn new(mut part: FlushPart<B, D, A>) -> Turn<C, B, D, A>
         requires { C.begun ≡ Some part }
     {
-        part.forget_image();
+        take_up(&mut part);
         Turn {
             part,
             rounds: RoundsMade::new(),

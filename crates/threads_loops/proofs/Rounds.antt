@@ -1,5 +1,6 @@
 -- When an image is copied, after each call of the flusher's part.
-use Rattle.std.proofs.Common.{◌≡◌, ◌≢◌, ℕ, ◌+◌, ap, arith, false, true, Option, None, Some, Result, Ok, Err, IfOk, IfErr, OnOk, inl, inr, sym, subst, ◌∙◌}
+use Rattle.std.proofs.Common.{◌≡◌, ◌≢◌, ◌⊎◌, ℕ, ◌+◌, ap, arith, false, true, Option, None, Some, IfSome, Result, Ok, Err, IfOk, IfErr, OnOk, inl, inr, sym, subst}
+use Rattle.std.proofs.Common.{◌∙◌, ⊎_elim}
 use Rattle.std.proofs.lemmas.Bool.{false≢true}
 use Rattle.record_values.specs.declared.error.Error.{Error}
 use Rattle.flip_image.specs.Layout.{HalvesValue, other}
@@ -9,12 +10,19 @@ use Rattle.store_image_model.specs.Places.{place_behind}
 use Rattle.store_image_model.specs.declared.chunk.Piece.{Piece}
 use Rattle.store_image_model.specs.declared.chunk.Piece.TheVariants.{Whole, Start, Page, Entries}
 use Rattle.model.specs.Cells.{Cells}
+use Rattle.core_model.specs.Histories.{Opened}
 use Rattle.core_parts.specs.View.{CoreValue}
+use Rattle.sector_device.specs.DevicePast.{DevicePast}
 use Rattle.locked_core.specs.Made.{IsAllOf}
-use Rattle.store_writer.specs.Copying.{next_place}
-use Rattle.store_writer.specs.Parts.{copying_of, halves_of, has_failed, log_of}
-use Rattle.store_writer.specs.Writer.{HasFailed, IsFlipReply, IsFlushReply, IsNotFlushed, IsStepReply, MustStartAgain}
+use Rattle.locked_core.specs.Pieces.{IsPieceOf}
+use Rattle.store_writer.specs.Copying.{IsCopying, next_place}
+use Rattle.store_writer.specs.Image.{IsUnderway}
+use Rattle.store_writer.specs.Parts.{copying_of, device_of, halves_of, has_failed, image_of, log_of, synced_of}
+use Rattle.store_writer.specs.Places.{IsAtPlace}
+use Rattle.store_writer.specs.Writer.{CanFlip, HasFailed, IsFlipReply, IsFlushReply, IsLogFull, IsNotFlushed, IsStepReply, MustStartAgain}
+use Rattle.store_writer.specs.declared.copying.Copying.{Copying}
 use Rattle.store_writer.specs.declared.copying.Copying.TheVariants.{Idle, Steps, GivenUp}
+use Rattle.store_writer.specs.declared.image.NewImage.{NewImage}
 use Rattle.store_writer.specs.declared.writer.FlipReply.TheVariants.{Behind, Flipped}
 use Rattle.store_writer.specs.declared.writer.FlushReply.{FlushReply}
 use Rattle.store_writer.specs.declared.writer.FlushReply.TheVariants.{Flushed, Nothing, LogFull}
@@ -23,8 +31,9 @@ use Rattle.store_writer.specs.declared.writer.StepReply.TheVariants.{StartAgain,
 use Rattle.store_writer.specs.declared.writer.Writer.{Writer}
 use Rattle.threads_flusher.specs.Going.{LeavesImage, TakesIn}
 use Rattle.threads_flusher.specs.Images.{IsHalfFull, IsPieceDue}
-use Rattle.threads_flusher.specs.Part.{FlushValue}
-use Rattle.threads_loops.specs.Copying.{HasImage, IsCopied, IsDue, IsWanted, StandsBy}
+use Rattle.threads_flusher.specs.Part.{FlushValue, IsFlusher, last_handed, run_of}
+use Rattle.threads_loops.specs.Copying.{HasImage, IsCopied, IsDue, IsWanted, StandsBy, WritesNone}
+use Rattle.threads_loops.specs.Through.{IsNextPiece}
 
 -- half the slots of the log are open, where those of another writer are
 module _ {D A : Type 0} (old new : Writer D A) (halves : halves_of new ≡ halves_of old) (half : IsHalfFull old) where
@@ -35,6 +44,9 @@ module _ {D A : Type 0} (old new : Writer D A) (halves : halves_of new ≡ halve
   -- or has a slot more
   half_more : log_of new ≡ record (log_of old) { open_slots = (log_of old).open_slots + 1 } → IsHalfFull new
   half_more more = omega (arith, half, ap (λ l. l.open_slots) more, ap (λ (h : HalvesValue). h.geometry.slots) halves)
+
+pub nothing_not_full : Nothing ≡ LogFull → ⊥
+nothing_not_full same = cc
 
 pub steps_on : (place : Option CopyPlace) → Steps place ≢ Idle
 steps_on place same = cc
@@ -93,10 +105,31 @@ module _ {D A : Type 0} (old new : FlushValue D A) where
     stands_by_flush (Err e) is sound (inl none) was = stands_still none.4 was
     stands_by_flush (Err e) is sound (inr device) was = stands_failed device.1
 
-    pub wanted_by_flush : (reply : FlushReply) → IsFlushReply reply old.writer new.writer → IsWanted old → IsWanted new
+    wanted_by_flush : (reply : FlushReply) → IsFlushReply reply old.writer new.writer → IsWanted old → IsWanted new
     wanted_by_flush (Flushed n) is was = λ idle. half_more old.writer new.writer halves (was (sym copying ∙ idle)) is.3.log-is
     wanted_by_flush Nothing is was = wanted_still is.0 was
     wanted_by_flush LogFull is was = wanted_still is.0 was
+
+    pub image_by_flush : (result : Result FlushReply Error) → IfOk result (λ reply. IsFlushReply reply old.writer new.writer)
+        → OnOk result (IsWanted old → IsWanted new)
+    image_by_flush (Ok reply) is = wanted_by_flush reply is
+    image_by_flush (Err e) is = tt
+
+  -- none was: no record waited, or the log was full
+  module _ (handed : new.handed ≡ old.handed) where
+    pub none_by_flush : (all : ℕ) (result : Result FlushReply Error) → IfOk result (λ reply. IsFlushReply reply old.writer new.writer)
+        → (result ≡ Ok Nothing → synced_of old.writer ≡ all)
+        → IfOk result (λ reply. reply ≡ Nothing → WritesNone old new × (synced_of old.writer ≡ all))
+    none_by_flush all (Ok reply) is synced = λ none.
+        (((subst (λ (r : FlushReply). IsFlushReply r old.writer new.writer) none is).0, handed), synced (ap Ok none))
+    none_by_flush all (Err e) is synced = tt
+
+    pub full_by_flush : (result : Result FlushReply Error) → IfOk result (λ reply. IsFlushReply reply old.writer new.writer)
+        → IfOk result (λ reply. reply ≡ LogFull → WritesNone old new × IsLogFull old.writer)
+    full_by_flush (Ok reply) is = λ full.
+        let told = subst (λ (r : FlushReply). IsFlushReply r old.writer new.writer) full is in
+        ((told.0, handed), told.1)
+    full_by_flush (Err e) is = tt
 
   -- a chunk was offered, which was taken or not
   module _ {M : Type 0} (failures : D → ℕ) (number : ℕ) (piece : Piece M) where
@@ -129,17 +162,36 @@ module _ {D A : Type 0} (old new : FlushValue D A) where
     pub image_behind : IsFlipReply handed Behind old.writer new.writer → copying_of old.writer ≢ Idle → HasImage old new
     image_behind is copied = inl ((λ idle. copied (sym (ap (λ (w : Writer D A). copying_of w) is.0) ∙ idle)), ap (λ (w : Writer D A). halves_of w) is.0)
 
-    -- and was given up
-    module _ (last : FlushValue D A) (is : IsFlipReply handed Behind old.writer new.writer) (leaves : LeavesImage GivenUp new last) where
-      pub stands_given : IsDue old → StandsBy last
-      stands_given due = subst (λ (f : FlushValue D A). StandsBy f) (sym leaves)
-          (λ sound copied. subst (λ (w : Writer D A). IsHalfFull w) (sym is.0) (due (sym (ap (λ (w : Writer D A). has_failed w) is.0) ∙ sound)))
+  -- or was given up
+  module _ (leaves : LeavesImage GivenUp old new) where
+    pub stands_given : IsDue old → StandsBy new
+    stands_given due = subst (λ (f : FlushValue D A). StandsBy f) (sym leaves) (λ sound copied. due sound)
 
-      pub image_given : HasImage old last
-      image_given = inl (
-        (λ idle. given_on (sym (ap (λ (f : FlushValue D A). copying_of f.writer) leaves) ∙ idle)),
-        ap (λ (f : FlushValue D A). halves_of f.writer) leaves ∙ ap (λ (w : Writer D A). halves_of w) is.0,
-      )
+    pub copied_given : IsCopied old new
+    copied_given = (
+      (λ idle. given_on (sym (ap (λ (f : FlushValue D A). copying_of f.writer) leaves) ∙ idle)),
+      ap (λ (f : FlushValue D A). halves_of f.writer) leaves,
+    )
+
+  pub due_still : new.writer ≡ old.writer → IsDue old → IsDue new
+  due_still same due = subst (λ (w : Writer D A). has_failed w ≡ false → IsHalfFull w) (sym same) due
+
+-- where all that was handed in is synced, and a whole image can't be made current, a flush gave it up
+pub gone_already : {D A : Type 0} {marks : ℕ → ℕ → Type 0} (past_of : D → DevicePast) (o : Opened) (f : FlushValue D A) → IsFlusher past_of marks o f
+    → has_failed f.writer ≡ false → copying_of f.writer ≡ Steps None → synced_of f.writer ≡ last_handed o f → ¬ CanFlip (last_handed o f) f.writer
+    → image_of f.writer ≡ None
+gone_already past_of o f is sound whole synced cannot = ⊎_elim (λ none. none) (λ there. absurd (cannot (can there))) at_end
+  where
+    at_end : (image_of f.writer ≡ None) ⊎ IsAtPlace (run_of o f).geometry.pages None (image_of f.writer)
+    at_end = subst (λ c. IsCopying (run_of o f).geometry.pages c (image_of f.writer)) whole (is.writer.holds sound).copying
+
+    can : IsAtPlace (run_of o f).geometry.pages None (image_of f.writer) → CanFlip (last_handed o f) f.writer
+    can there =
+        let under : IsUnderway (run_of o f) (other (halves_of f.writer).current) (past_of (device_of f.writer)).disk.content (synced_of f.writer) there.0 =
+        subst (λ (i : Option NewImage).
+        IfSome i (IsUnderway (run_of o f) (other (halves_of f.writer).current) (past_of (device_of f.writer)).disk.content (synced_of f.writer)))
+        there.1 (is.writer.holds sound).image in
+        (there.0, there.1, there.2, under.made, omega (arith, under.made, synced))
 
 -- some steps were made
 module _ {D A : Type 0} (old mid new : FlushValue D A) where
@@ -186,3 +238,28 @@ whole_behind old new (Whole cells) is behind = behind (λ must. must)
 whole_behind old new (Start life lists) is behind = absurd is
 whole_behind old new (Page page rows) is behind = absurd is
 whole_behind old new (Entries entries) is behind = absurd is
+
+-- ---- the piece that comes next
+
+-- it is that of the place where the copying is
+pub next_there : {A : Type 0} (v : CoreValue) (cells : Cells) (place : CopyPlace) (piece : Piece A) (copying : Copying) → IsPieceOf v cells place piece
+    → next_place copying ≡ Some place → IsNextPiece piece copying
+next_there v cells at.Start (Start life lists) copying is next = next
+next_there v cells (at.Page page) (Page copied rows) copying is next = next ∙ ap (λ n. Some (at.Page n)) (sym is.0)
+next_there v cells (at.Entries above) (Entries entries) copying is next = (above, next)
+next_there v cells at.Start (Whole copied) copying is next = absurd is
+next_there v cells at.Start (Page page rows) copying is next = absurd is
+next_there v cells at.Start (Entries entries) copying is next = absurd is
+next_there v cells (at.Page page) (Whole copied) copying is next = absurd is
+next_there v cells (at.Page page) (Start life lists) copying is next = absurd is
+next_there v cells (at.Page page) (Entries entries) copying is next = absurd is
+next_there v cells (at.Entries above) (Whole copied) copying is next = absurd is
+next_there v cells (at.Entries above) (Start life lists) copying is next = absurd is
+next_there v cells (at.Entries above) (Page page rows) copying is next = absurd is
+
+-- or all cells, where one was given up
+pub next_whole : {A : Type 0} (piece : Piece A) (copying : Copying) → IsAll piece → copying ≡ GivenUp → IsNextPiece piece copying
+next_whole (Whole cells) copying is given = given
+next_whole (Start life lists) copying is given = absurd is
+next_whole (Page page rows) copying is given = absurd is
+next_whole (Entries entries) copying is given = absurd is

@@ -1,6 +1,8 @@
 -- What goes through the states of the flush loop goes on.
 use Rattle.std.proofs.Common.{◌≡◌, ◌⊎◌, ◌≤◌, ◌++◌, ℕ, List, [], ◌∷◌, Result, Ok, Err, IfErr, OnOk, false, true, inl, inr, refl, sym, ap, ◌∙◌}
-use Rattle.std.proofs.Common.{subst, arith, append_assoc}
+use Rattle.std.proofs.lemmas.Bool.{cases_lt, le-leb, lt-leb}
+use Rattle.threads_flusher.specs.Images.{IsHalfFull}
+use Rattle.std.proofs.Common.{Bool, nat_le, if◌then◌else◌, ◌/◌, subst, arith, append_assoc}
 use Rattle.record_values.specs.declared.error.Error.{Error}
 use Rattle.record_values.specs.declared.error.Error.TheVariants.{DeviceFailed}
 use Rattle.core_model.specs.Histories.{Opened}
@@ -8,14 +10,14 @@ use Rattle.sector_device.specs.DevicePast.{DevicePast, LeavesOnly}
 use Rattle.sector_device.proofs.Moments.{weaker}
 use Rattle.board.specs.Views.{FlusherCount}
 use Rattle.flip_image.specs.Layout.{HalvesValue}
-use Rattle.store_writer.specs.Parts.{device_of, halves_of, has_failed, synced_of}
+use Rattle.store_writer.specs.Parts.{device_of, halves_of, has_failed, log_of, synced_of, without_image}
 use Rattle.store_writer.specs.declared.copying.Copying.{Copying}
 use Rattle.store_writer.specs.declared.copying.Copying.TheVariants.{GivenUp, Idle}
 use Rattle.threads_flusher.specs.Going.{GoesOn, LeavesImage, TakesIn}
 use Rattle.threads_flusher.specs.Part.{FlushValue, GivesBeginning, IsFlusher, popped_by}
-use Rattle.threads_flusher.proofs.Going.{counted_same, counted_then, goes_by_leaving, goes_then}
+use Rattle.threads_flusher.proofs.Going.{counted_same, counted_then, goes_by_leaving, goes_nowhere, goes_then}
 use Rattle.threads_flusher.proofs.Publications.{beginning_of, same_store}
-use Rattle.threads_loops.specs.Through.{Calls, DropsImage, GoesThrough, HasFlushed, RunsThrough, forgotten}
+use Rattle.threads_loops.specs.Through.{Calls, DropsImage, GoesThrough, HasFlushed, RunsThrough, taken_up}
 use Rattle.threads_loops.proofs.Through.{goes_by}
 
 -- what is published is not above what is synced
@@ -102,13 +104,34 @@ module _ {D A : Type 0} (past_of : D → DevicePast) (marks : ℕ → ℕ → Ty
       let now : GoesOn past_of failures o old next × IsLow next = step_on old mid next goes low is.0 in
       goes_through old next new states now.0 now.1 is.1
 
+-- what a loop takes up
+module _ {D A : Type 0} (f : FlushValue D A) where
+  abbrev up_as : Bool → FlushValue D A
+  up_as b = if b then f else record f { writer = without_image Idle f.writer }
+
+  pub up_half_full : IsHalfFull f.writer → taken_up f ≡ f
+  up_half_full half = ap up_as (le-leb ((halves_of f.writer).geometry.slots / 2) (log_of f.writer).open_slots half)
+
+  pub up_forgotten : (IsHalfFull f.writer → ⊥) → taken_up f ≡ record f { writer = without_image Idle f.writer }
+  up_forgotten less = elim (cases_lt (log_of f.writer).open_slots ((halves_of f.writer).geometry.slots / 2)) [
+    | inl low ↦ ap up_as (lt-leb ((halves_of f.writer).geometry.slots / 2) (log_of f.writer).open_slots low)
+    | inr high ↦ absurd (less high)
+  ]
+
 module _ {D A : Type 0} {marks : ℕ → ℕ → Type 0} (past_of : D → DevicePast) (failures : D → ℕ) (o : Opened) where
+  -- what a loop takes up went on
+  up_by : (b : Bool) (f : FlushValue D A) → IsFlusher past_of marks o f
+      → GoesOn past_of failures o f (if b then f else record f { writer = without_image Idle f.writer })
+      × IsLow (if b then f else record f { writer = without_image Idle f.writer })
+  up_by true f is = (goes_nowhere past_of failures o f is, is.horizon)
+  up_by false f is = (goes_by_leaving past_of failures o Idle f (record f { writer = without_image Idle f.writer }) is refl, is.horizon)
+
   -- and so does the loop
   pub goes_by_running : (old new : FlushValue D A) → IsFlusher past_of marks o old → RunsThrough past_of marks failures o old new
       → GoesOn past_of failures o old new
   goes_by_running old new is through =
-      goes_through past_of marks failures o old (forgotten old) new through.states
-      (goes_by_leaving past_of failures o Idle old (forgotten old) is refl) is.horizon through.steps
+      let up = up_by (nat_le ((halves_of old.writer).geometry.slots / 2) (log_of old.writer).open_slots) old is in
+      goes_through past_of marks failures o old (taken_up old) new through.states up.0 up.1 through.steps
 
   -- so has one whose device has not failed where it ended with `Ok`
   pub has_flushed : (P : Type 0) (old new : FlushValue D A) (ended : Result (Unit {0}) Error) → GoesOn past_of failures o old new

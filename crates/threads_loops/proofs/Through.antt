@@ -1,26 +1,24 @@
 -- The states that the flush loop goes through.
-use Rattle.std.proofs.Common.{◌≡◌, ◌⊎◌, ◌≤◌, ◌+◌, ℕ, List, [], ◌∷◌, ◌++◌, length, None, Result, IfErr, IfOk, OnErr, OnOk, false, true, inl, inr, refl, sym, ap}
-use Rattle.std.proofs.Common.{◌∙◌, subst, arith}
+use Rattle.std.proofs.Common.{◌≡◌, ◌⊎◌, ◌≤◌, ℕ, List, [], ◌∷◌, ◌++◌, ◌-◌, Ok, Result, IfErr, IfOk, OnErr, OnOk, false, true, inl, inr, refl, ap}
+use Rattle.std.proofs.Common.{subst, arith}
 use Rattle.record_values.specs.declared.error.Error.{Error}
 use Rattle.core_model.specs.Histories.{Opened}
 use Rattle.sector_device.specs.DevicePast.{DevicePast, LeavesOnly, Rises}
 use Rattle.flip_image.specs.Layout.{HalvesValue}
 use Rattle.store_image_model.specs.declared.chunk.Piece.{Piece}
-use Rattle.store_writer.specs.Parts.{copying_of, device_of, halves_of, has_failed, synced_of}
-use Rattle.store_writer.specs.Writer.{CanFlip, HasFailed, IsAsBefore, IsBeforeFlush, IsChunk, IsFlipReply, IsFlushReply, IsNotFlushed, IsStepReply}
+use Rattle.store_writer.specs.Image.{BecomesImage}
+use Rattle.store_writer.specs.Parts.{copying_of, device_of, halves_of, has_failed, image_of, synced_of}
+use Rattle.store_writer.specs.Writer.{HasFailed, IsAsBefore, IsBeforeFlush, IsChunk, IsFlipReply, IsFlushReply, IsNotFlushed, IsStepReply}
 use Rattle.store_writer.specs.declared.writer.FlipReply.{FlipReply}
 use Rattle.store_writer.specs.declared.writer.FlushReply.{FlushReply}
 use Rattle.store_writer.specs.declared.writer.StepReply.{StepReply}
 use Rattle.threads_flusher.proofs.Going.{counted_by_call, counted_by_flush, flip_geometry, goes_by_call, quiet_by_call, quiet_by_flush, step_geometry}
 use Rattle.threads_flusher.proofs.Keeping.{flip_rises, flush_rises, flush_sound, still_sound}
-use Rattle.store_writer.specs.declared.copying.Copying.TheVariants.{GivenUp, Idle, Steps}
-use Rattle.store_writer.specs.declared.writer.FlipReply.TheVariants.{Behind}
-use Rattle.store_writer.specs.declared.writer.Writer.{Writer}
-use Rattle.records.specs.RecordValue.{RecordValue}
-use Rattle.threads_flusher.specs.Going.{GoesOn, LeavesImage, TakesIn}
+use Rattle.store_writer.specs.declared.writer.FlushReply.TheVariants.{Flushed}
+use Rattle.threads_flusher.specs.Going.{GoesOn, TakesIn}
 use Rattle.threads_flusher.specs.Images.{IsHalfFull}
 use Rattle.threads_flusher.specs.Part.{FlushValue, FlushLeaves, Publishes, last_handed, run_of}
-use Rattle.threads_loops.specs.Through.{Calls, GoesThrough, IsFlip, IsFlush, IsStep, PassesThrough, RunsThrough}
+use Rattle.threads_loops.specs.Through.{Calls, DropsImage, GoesThrough, IsFlip, IsFlush, IsNextPiece, IsStep, PassesThrough, RunsThrough, taken_up}
 
 -- from state to state, and then on
 module _ {D A : Type 0} (past_of : D → DevicePast) (marks : ℕ → ℕ → Type 0) (failures : D → ℕ) (o : Opened) where
@@ -43,21 +41,13 @@ module _ {D A : Type 0} {marks : ℕ → ℕ → Type 0} (past_of : D → Device
     steps = steps_then past_of marks failures o old mid new first.states second.states first.steps second.steps;
   }
 
-  -- a whole image was given up, as its flip was refused
-  pub through_giving : (old mid new : FlushValue D A) → copying_of old.writer ≡ Steps None → Publishes past_of marks old mid
-      → IsFlipReply (last_handed o old) Behind old.writer mid.writer → LeavesImage GivenUp mid new → PassesThrough past_of marks failures o mid new
-  through_giving old mid new whole publishes behind leaves =
-      let same : last_handed o mid ≡ last_handed o old = ap (λ (l : List RecordValue). o.given.last + length l) publishes.handed in
-      let cannot : ¬ CanFlip (last_handed o mid) mid.writer = subst (λ (n : ℕ). ¬ CanFlip n mid.writer) (sym same)
-      (subst (λ (w : Writer D A). ¬ CanFlip (last_handed o old) w) (sym behind.0) behind.1) in
-      record {
-        states = new ∷ [];
-        steps = (inr (inr (ap (λ (w : Writer D A). copying_of w) behind.0 ∙ whole, cannot, leaves)), refl);
-      }
+  -- a whole image was given up
+  pub through_giving : (old new : FlushValue D A) → DropsImage o old new → PassesThrough past_of marks failures o old new
+  through_giving old new drops = record { states = new ∷ []; steps = (inr (inr drops), refl) }
 
-  -- an image of an earlier loop was forgotten
-  pub through_forgetting : (old new : FlushValue D A) → LeavesImage Idle old new → RunsThrough past_of marks failures o old new
-  through_forgetting old new leaves = record { states = []; steps = leaves }
+  -- what an earlier loop left was taken up
+  pub through_taking_up : (old new : FlushValue D A) → new ≡ taken_up old → RunsThrough past_of marks failures o old new
+  through_taking_up old new up = record { states = []; steps = up }
 
   -- ---- calls of the writer
 
@@ -94,9 +84,10 @@ module _ {D A : Type 0} {marks : ℕ → ℕ → Type 0} (past_of : D → Device
           → IfOk result (λ reply. IsFlushReply reply old.writer new.writer) → OnOk result ((has_failed old.writer ≡ false) × (has_failed new.writer ≡ false))
           → IfErr result (λ e. IsNotFlushed failures e old.writer new.writer) → OnErr result (synced_of new.writer ≡ synced_of old.writer)
           → OnErr result (IsBeforeFlush old.writer new.writer) → OnOk result (failures (device_of new.writer) ≡ failures (device_of old.writer))
-          → Calls past_of marks failures o old new
-      by_flush result halves flushed sound err kept left quiet = record {
-        made = inl (record { result = result; flushed = flushed; sound = sound; err = err; left = left });
+          → copying_of new.writer ≡ copying_of old.writer → ((n : ℕ) → result ≡ Ok (Flushed n) → BecomesImage (halves_of old.writer).geometry.slots
+          (synced_of old.writer) (n - synced_of old.writer) (image_of old.writer) (image_of new.writer)) → Calls past_of marks failures o old new
+      by_flush result halves flushed sound err kept left quiet copying image = record {
+        made = inl (record { result = result; flushed = flushed; sound = sound; err = err; left = left; copying = copying; image = image });
         publishes = publishes;
         geometry = ap (λ (h : HalvesValue). h.geometry) halves;
         rises = flush_rises failures old.writer new.writer result flushed kept;
@@ -106,15 +97,16 @@ module _ {D A : Type 0} {marks : ℕ → ℕ → Type 0} (past_of : D → Device
       }
 
       pub by_step : (number : ℕ) (piece : Piece A) (result : Result StepReply Error) → IsChunk (run_of o old) old.writer number piece
-          → (has_failed old.writer ≡ false → IsHalfFull old.writer) → IfOk result (λ reply. IsStepReply number piece reply old.writer new.writer)
+          → IsNextPiece piece (copying_of old.writer) → (has_failed old.writer ≡ false → IsHalfFull old.writer) → IfOk result (λ reply. IsStepReply number piece reply old.writer new.writer)
           → OnOk result ((has_failed old.writer ≡ false) × (has_failed new.writer ≡ false)) → IfErr result (λ e. HasFailed failures e old.writer new.writer)
           → synced_of new.writer ≡ synced_of old.writer → OnErr result (IsAsBefore old.writer new.writer)
           → OnOk result (failures (device_of new.writer) ≡ failures (device_of old.writer)) → Calls past_of marks failures o old new
-      by_step number piece result chunk late stepped sound err kept left quiet = record {
+      by_step number piece result chunk next late stepped sound err kept left quiet = record {
         made = inr (inl (record {
           number = number;
           piece = piece;
           chunk = chunk;
+          next = next;
           late = late;
           result = result;
           stepped = stepped;

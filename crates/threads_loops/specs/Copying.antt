@@ -26,3 +26,7 @@ IsCopied old new = (copying_of new.writer ≢ Idle) × (halves_of new.writer ≡
 abbrev pub HasImage : {D A : Type 0} → FlushValue D A → FlushValue D A → Type 0
 HasImage old new = IsCopied old new
     ⊎ ((copying_of new.writer ≡ Idle) × ((halves_of new.writer).current ≡ other (halves_of old.writer).current))
+
+-- no group was written, and the writer is as it was
+abbrev pub WritesNone : {D A : Type 0} → FlushValue D A → FlushValue D A → Type 0
+WritesNone old new = (new.writer ≡ old.writer) × (new.handed ≡ old.handed)

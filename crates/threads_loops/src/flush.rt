@@ -5,12 +5,12 @@ ghost use Rattle.record_values.specs.declared.error.Error.TheVariants.{DeviceFai
 ghost use Rattle.store_image_model.specs.Places.{place_behind};
 ghost use Rattle.store_writer.specs.Copying.{next_place, steps_of_image};
 ghost use Rattle.store_writer.specs.Parts.{copying_of, device_of, halves_of, has_failed, synced_of};
-ghost use Rattle.store_writer.specs.Writer.{IsChunk, MayPass, MustStartAgain};
+ghost use Rattle.store_writer.specs.Writer.{IsChunk, IsLogFull, MayPass, MustStartAgain};
 ghost use Rattle.threads_flusher.specs.Going.{GoesOn, TakesIn};
-ghost use Rattle.store_writer.specs.declared.copying.Copying.TheVariants.{Idle, Steps};
+ghost use Rattle.store_writer.specs.declared.copying.Copying.TheVariants.{GivenUp, Idle, Steps};
 ghost use Rattle.threads_flusher.specs.Part.{last_handed, run_of};
-ghost use Rattle.threads_loops.specs.Copying.{HasImage, IsCopied, IsDue, IsWanted, StandsBy};
-ghost use Rattle.threads_loops.specs.Through.{HasPassedPages, PassesThrough, RunsThrough};
+ghost use Rattle.threads_loops.specs.Copying.{HasImage, IsCopied, IsDue, IsWanted, StandsBy, WritesNone};
+ghost use Rattle.threads_loops.specs.Through.{HasPassedPages, IsNextPiece, PassesThrough, RunsThrough, taken_up};
 
 use crate::gate::{Gate, Point};
 use crate::rest::{Found, has_ended, rest_flusher};
@@ -67,7 +67,7 @@ pub(crate) fn flush_until<B: Group, D: Device, R: Wait, G: Gate, A: Memory>(
 {
     part.stands();
     let bell = &shared.board().waits().pushed;
-    part.forget_image();
+    take_up(part);
     let mut rounds = RoundsMade::new();
     let mut quiet = 0;
     for _ in rt.forever() {
@@ -85,6 +85,18 @@ pub(crate) fn flush_until<B: Group, D: Device, R: Wait, G: Gate, A: Memory>(
         quiet = rest_flusher(rt, shared.board().waits(), rings, seen, quiet);
     }
     unreachable!()
+}
+
+/// Goes on with an image that an earlier loop left under way, where half the slots of the log are open. (They are since
+/// it was begun; an image that is under way though they are not is forgotten.)
+pub fn take_up<B: Group, D: Device, A: Memory>(part: &mut FlushPart<B, D, A>)
+    ensures up { part.new ≡ taken_up part.old }
+    ensures copying { StandsBy part.new }
+{
+    if part.wants_image() {
+        return;
+    }
+    part.forget_image();
 }
 
 /// How many rounds were made, and how often the bell had rung as records were taken last. A loop has one, and no
@@ -177,8 +189,8 @@ fn round<B: Group, D: Device, R: Wait, G: Gate, A: Memory>(
     ensures image { OnOk result (IsWanted part.old → HasImage part.old part.new) }
 {
     let _looked = take_records(rt, shared, part, takes, looks);
-    let is_full = write(shared, part, gate)?;
-    copy_some(rt, shared, part, is_full, gate)
+    write(shared, part, gate)?;
+    copy_some(rt, shared, part, gate)
 }
 
 // How many steps of an image are made a round: so many that an image, also of a full index, is whole before a quarter
@@ -206,7 +218,6 @@ fn copy_some<B: Group, D: Device, R: Wait, G: Gate, A: Memory>(
     rt: &R,
     shared: &Shared<B, A>,
     part: &mut FlushPart<B, D, A>,
-    is_full: bool,
     gate: &G,
 ) -> Result<(), Error>
     requires copying { StandsBy part.old }
@@ -215,12 +226,12 @@ fn copy_some<B: Group, D: Device, R: Wait, G: Gate, A: Memory>(
     ensures image { OnOk result (IsWanted part.old → HasImage part.old part.new) }
 {
     let steps = steps_a_round(part.geometry());
-    copy(rt, shared, part, is_full, gate)?;
+    copy(rt, shared, part, gate)?;
     for _ in 1..steps {
         if is_idle(part.copying()) {
             return Ok(());
         }
-        copy(rt, shared, part, is_full, gate)?;
+        copy(rt, shared, part, gate)?;
     }
     Ok(())
 }
@@ -255,25 +266,29 @@ fn take_records<B: Group, D: Device, R: Wait, A: Memory>(
     Ok(Some(looked?))
 }
 
-// Writes a group, where records wait, and tells whether one waits that the log has no room for.
+// Writes a group, where records wait.
 fn write<B: Group, D: Device, G: Gate, A: Memory>(
     shared: &Shared<B, A>,
     part: &mut FlushPart<B, D, A>,
     gate: &G,
-) -> Result<bool, Error>
+) -> Result<FlushReply, Error>
     ensures through { PassesThrough D.past_of D.marks D.failures B.site.opened part.old part.new }
     ensures copying { StandsBy part.old → StandsBy part.new }
     ensures half { halves_of part.new.writer ≡ halves_of part.old.writer }
+    ensures place { copying_of part.new.writer ≡ copying_of part.old.writer }
     ensures image { OnOk result (IsWanted part.old → IsWanted part.new) }
+    ensures none { IfOk result (λ reply. reply ≡ FlushReply.Nothing → WritesNone part.old part.new
+        × (synced_of part.old.writer ≡ last_handed B.site.opened part.old)) }
+    ensures full { IfOk result (λ reply. reply ≡ FlushReply.LogFull → WritesNone part.old part.new
+        × IsLogFull part.old.writer) }
 {
     if part.synced() == part.last_handed() {
-        return Ok(false);
+        return Ok(FlushReply::Nothing);
     }
     gate.at(Point::FlushSync);
     let flushed = part.flush(shared.board());
     gate.at(Point::FlushGate);
-    let reply = flushed?;
-    Ok(reply == FlushReply::LogFull)
+    flushed
 }
 
 // Takes the next chunk of an image, or makes it current; or begins one, where half the slots are open.
@@ -281,7 +296,6 @@ fn copy<B: Group, D: Device, R: Wait, G: Gate, A: Memory>(
     rt: &R,
     shared: &Shared<B, A>,
     part: &mut FlushPart<B, D, A>,
-    is_full: bool,
     gate: &G,
 ) -> Result<(), Error>
     requires copying { StandsBy part.old }
@@ -297,10 +311,10 @@ fn copy<B: Group, D: Device, R: Wait, G: Gate, A: Memory>(
             copy_piece(rt, shared, part, CopyPlace::Start, gate)
         }
         Copying::Steps(Some(place)) => pass_or_copy(rt, shared, part, place, gate),
-        Copying::Steps(None) => flip(shared, part, is_full),
+        Copying::Steps(None) => flip(shared, part, gate),
         Copying::GivenUp => {
             copy_all(rt, shared, part, gate)?;
-            flip(shared, part, is_full)
+            flip(shared, part, gate)
         }
     }
 }
@@ -393,6 +407,7 @@ fn copy_all<B: Group, D: Device, R: Wait, G: Gate, A: Memory>(
     part: &mut FlushPart<B, D, A>,
     gate: &G,
 ) -> Result<(), Error>
+    requires given_up { copying_of part.old.writer ≡ GivenUp }
     requires late { IsDue part.old }
     ensures through { PassesThrough D.past_of D.marks D.failures B.site.opened part.old part.new }
     ensures copying { StandsBy part.new }
@@ -415,6 +430,7 @@ fn take_chunk<B: Group, D: Device, A: Memory>(
     chunk: Chunk<A>,
 ) -> Result<(), Error>
     requires chunk { IsChunk (run_of B.site.opened part.old) part.old.writer chunk.number chunk.piece }
+    requires next { IsNextPiece chunk.piece (copying_of part.old.writer) }
     requires late { IsDue part.old }
     ensures through { PassesThrough D.past_of D.marks D.failures B.site.opened part.old part.new }
     ensures copying { StandsBy part.new }
@@ -427,11 +443,12 @@ fn take_chunk<B: Group, D: Device, A: Memory>(
     Ok(())
 }
 
-// Makes the image current. Where it can't be, and no group more can be written, a whole one is to be taken.
-fn flip<B: Group, D: Device, A: Memory>(
+// Makes the image current; or, where it can't be yet, writes a group. Where no group more can be written, it is given
+// up, and a whole one is to be taken.
+fn flip<B: Group, D: Device, G: Gate, A: Memory>(
     shared: &Shared<B, A>,
     part: &mut FlushPart<B, D, A>,
-    is_full: bool,
+    gate: &G,
 ) -> Result<(), Error>
     requires whole { copying_of part.old.writer ≡ Steps None }
     requires late { IsDue part.old }
@@ -439,13 +456,18 @@ fn flip<B: Group, D: Device, A: Memory>(
     ensures copying { StandsBy part.new }
     ensures image { OnOk result (copying_of part.old.writer ≢ Idle → HasImage part.old part.new) }
 {
-    let may_wait = !is_full && part.synced() < part.last_handed();
     match part.flip(shared.board())? {
-        FlipReply::Flipped(_) => Ok(()),
-        FlipReply::Behind => {
-            if may_wait {
-                return Ok(());
-            }
+        FlipReply::Flipped(_) => return Ok(()),
+        FlipReply::Behind => {}
+    }
+    part.stands();
+    match write(shared, part, gate)? {
+        FlushReply::Flushed(_) => Ok(()),
+        FlushReply::Nothing => {
+            part.give_up();
+            Ok(())
+        }
+        FlushReply::LogFull => {
             part.give_up();
             Ok(())
         }

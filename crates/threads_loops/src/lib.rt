@@ -39,7 +39,7 @@ mod threads;
 pub use build::build_loop;
 pub use builder_end::BuilderEnd;
 pub use clean::clean_loop;
-pub use flush::{RoundsMade, flush_loop, flush_round};
+pub use flush::{RoundsMade, flush_loop, flush_round, take_up};
 pub use flushing::{Flushed, Flushing};
 pub use gate::{Gate, NoGate, Point};
 pub use reason::Told;

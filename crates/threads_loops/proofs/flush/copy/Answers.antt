@@ -31,7 +31,10 @@ pub flip-requires-clause-late : goal.flip-requires-clause-late
 flip-requires-clause-late g c = λ sound. c.requires.copying sound (λ idle. steps_on _ (sym c.in-Steps-None.is ∙ (c.copying.ensures ∙ idle)))
 
 pub copy_all-requires : goal.copy_all-requires
-copy_all-requires g c = record { late = λ sound. c.requires.copying sound (λ idle. given_on (sym c.in-GivenUp.is ∙ (c.copying.ensures ∙ idle))) }
+copy_all-requires g c = record {
+  given_up = sym c.copying.ensures ∙ c.in-GivenUp.is;
+  late = λ sound. c.requires.copying sound (λ idle. given_on (sym c.in-GivenUp.is ∙ (c.copying.ensures ∙ idle)));
+}
 
 pub flip-requires-in-GivenUp-clause-whole : goal.flip-requires-in-GivenUp-clause-whole
 flip-requires-in-GivenUp-clause-whole g c = c.in_ok-copy_all-in-GivenUp.ensures.whole

@@ -1,11 +1,17 @@
+use Rattle.std.proofs.Common.{◌∙◌}
 use Rattle.std.proofs.lemmas.Result.{err_from_is_err_and, on_ok_weaker}
 use Rattle.store_writer.specs.Parts.{halves_of}
-use Rattle.threads_loops.proofs.Rounds.{all_of, copied_by_taking, due_by_taking, stands_due, whole_behind}
+use Rattle.threads_loops.proofs.Rounds.{all_of, copied_by_taking, due_by_taking, next_whole, stands_due, whole_behind}
 use Rattle.threads_loops.proofs.Through.{through_taking, through_then}
 use Rattle.threads_loops.proofs.flush.copy_all.Goals as goal
 
 pub take_chunk-requires-clause-chunk : goal.take_chunk-requires-clause-chunk
 take_chunk-requires-clause-chunk g c = c.in_ok-chunk.ensures.chunk
+
+pub take_chunk-requires-clause-next : goal.take_chunk-requires-clause-next
+take_chunk-requires-clause-next g c = next_whole c.in_ok-chunk.chunk.piece _
+    (all_of _ _ c.in_ok-chunk.chunk.piece (c.in_ok-chunk.ensures.whole (halves_of c.args.part.now.writer).geometry))
+    (c.copy_whole-copied.ensures.takes.copying ∙ c.requires.given_up)
 
 pub take_chunk-requires-clause-late : goal.take_chunk-requires-clause-late
 take_chunk-requires-clause-late g c = due_by_taking _ _ c.copy_whole-copied.ensures.takes c.requires.late

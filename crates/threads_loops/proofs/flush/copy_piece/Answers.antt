@@ -1,6 +1,8 @@
-use Rattle.std.proofs.Common.{◌∙◌, sym}
+use Rattle.std.proofs.Common.{◌∙◌, ap, sym}
 use Rattle.std.proofs.lemmas.Result.{err_from_is_err_and, on_ok_weaker}
-use Rattle.threads_loops.proofs.Rounds.{copied_by_taking, due_by_taking, piece_due, stands_due}
+use Rattle.store_writer.specs.Copying.{next_place}
+use Rattle.store_writer.specs.Parts.{halves_of}
+use Rattle.threads_loops.proofs.Rounds.{copied_by_taking, due_by_taking, next_there, piece_due, stands_due}
 use Rattle.threads_loops.proofs.Through.{through_none, through_taking, through_then}
 use Rattle.threads_loops.proofs.flush.copy_piece.Goals as goal
 
@@ -12,6 +14,11 @@ copy_step-copied-requires-clause-due g c = piece_due c.args.place c.args.part.no
 
 pub take_chunk-requires-clause-chunk : goal.take_chunk-requires-clause-chunk
 take_chunk-requires-clause-chunk g c = c.in_ok-chunk.ensures.chunk
+
+pub take_chunk-requires-clause-next : goal.take_chunk-requires-clause-next
+take_chunk-requires-clause-next g c = next_there _ _ c.args.place c.in_ok-chunk.chunk.piece _
+    (c.in_ok-chunk.ensures.piece (halves_of c.args.part.now.writer).geometry)
+    (ap next_place c.copy_step-copied.ensures.takes.copying ∙ c.requires.due)
 
 pub take_chunk-requires-clause-late : goal.take_chunk-requires-clause-late
 take_chunk-requires-clause-late g c = due_by_taking _ _ c.copy_step-copied.ensures.takes c.requires.late

@@ -1,13 +1,11 @@
-use Rattle.std.proofs.Common.{◌∙◌, ap, refl, sym}
+use Rattle.std.proofs.Common.{◌∙◌, refl, sym}
 use Rattle.std.proofs.lemmas.Bool.{false≢true}
-use Rattle.store_writer.specs.Parts.{copying_of}
 use Rattle.threads_flusher.specs.Going.{TakesIn}
-use Rattle.threads_flusher.specs.Part.{FlushValue}
 use Rattle.threads_flusher.proofs.Taking.{took_look}
 use Rattle.threads_loops.specs.Through.{RunsThrough}
 use Rattle.threads_loops.proofs.Rounds.{stands_by_taking}
 use Rattle.threads_loops.proofs.Running.{goes_by_running}
-use Rattle.threads_loops.proofs.Through.{through_forgetting, through_taking, through_then}
+use Rattle.threads_loops.proofs.Through.{through_taking, through_taking_up, through_then}
 use Rattle.threads_loops.proofs.flush.flush_until.Goals as goal
 
 pub flush_round-seen-requires : goal.flush_round-seen-requires
@@ -18,9 +16,8 @@ flush_round-seen-requires g c =
 
 pub loop-init : goal.loop-init
 loop-init g c = record {
-  through = through_forgetting g.D.Device.past_of g.D.Device.failures g.B.Group.site.opened c.args.part.now c.forget_image.new.self
-      c.forget_image.ensures;
-  copying = λ _ copied. absurd (copied (ap (λ (f : FlushValue _ _). copying_of f.writer) c.forget_image.ensures));
+  through = through_taking_up g.D.Device.past_of g.D.Device.failures g.B.Group.site.opened c.args.part.now c.take_up.new.part c.take_up.ensures.up;
+  copying = c.take_up.ensures.copying;
 }
 
 pub loop-preserved : goal.loop-preserved

@@ -23,7 +23,7 @@ returns-clause-passed g c passes =
     let piece : Piece g.row.A.Denot = Page page rows in
     let sound : has_failed old.writer ≡ false = (is.when.0 passes).0 in
     let call : Calls past_of g.D.Device.marks failures o old new = by_step past_of failures o old new (is.publishes passes) (is.images passes)
-    (omega (arith, ap (λ w. failures (device_of w)) passed.9)) number piece (Ok Taken) chunk c.requires.late told
+    (omega (arith, ap (λ w. failures (device_of w)) passed.9)) number piece (Ok Taken) chunk next c.requires.late told
     (sound, ap (λ w. has_failed w) passed.9 ∙ sound) tt (ap (λ w. synced_of w) passed.9) tt (ap (λ w. failures (device_of w)) passed.9) in
     record {
       through = through_call past_of failures o old new call;

@@ -10,8 +10,8 @@ copy_some-requires g c = record {
   copying = c.write.ensures.copying (stands_by_taking _ _ c.take_records-looked.ensures.takes c.requires.copying);
 }
 
-pub returns-in_err-is_full : goal.returns-in_err-is_full
-returns-in_err-is_full g c =
+pub returns-in_err-write : goal.returns-in_err-write
+returns-in_err-write g c =
     let past_of = g.D.Device.past_of in
     let failures = g.D.Device.failures in
     let o = g.B.Group.site.opened in
@@ -43,5 +43,5 @@ returns g c =
       through = through_then past_of failures o old mid new through c.copy_some.ensures.through;
       copying = c.copy_some.ensures.copying;
       image = on_ok_weaker c.copy_some.result (λ image wanted. image_from old mid new (c.write.ensures.half ∙ takes.got.halves)
-          (image (c.in_ok-is_full.ensures.image (wanted_by_taking old got takes wanted)))) c.copy_some.ensures.image;
+          (image (c.in_ok-write.ensures.image (wanted_by_taking old got takes wanted)))) c.copy_some.ensures.image;
     }

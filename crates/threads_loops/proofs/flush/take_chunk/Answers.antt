@@ -14,7 +14,7 @@ returns-in_err-take_piece g c =
     let new = c.take_piece.new.self in
     let is = c.take_piece.ensures in
     let call : Calls past_of g.D.Device.marks failures o old new = by_step past_of failures o old new is.publishes is.images is.later c.args.chunk.number
-    c.args.chunk.piece c.take_piece.result c.requires.chunk c.requires.late is.stepped is.sound is.err is.kept is.left is.quiet in
+    c.args.chunk.piece c.take_piece.result c.requires.chunk c.requires.next c.requires.late is.stepped is.sound is.err is.kept is.left is.quiet in
     let due : IsDue new = due_behind old new failures c.args.chunk.number c.args.chunk.piece c.take_piece.result is.stepped is.err c.requires.late in
     let p = err_from_is_err_and c.from_residual.result c.from_residual.ensures.1 in
     rw p.1 (record {
@@ -34,7 +34,7 @@ returns g c =
     let new = c.take_piece.new.self in
     let is = c.take_piece.ensures in
     let call : Calls past_of g.D.Device.marks failures o old new = by_step past_of failures o old new is.publishes is.images is.later c.args.chunk.number
-    c.args.chunk.piece c.take_piece.result c.requires.chunk c.requires.late is.stepped is.sound is.err is.kept is.left is.quiet in
+    c.args.chunk.piece c.take_piece.result c.requires.chunk c.requires.next c.requires.late is.stepped is.sound is.err is.kept is.left is.quiet in
     let due : IsDue new = due_behind old new failures c.args.chunk.number c.args.chunk.piece c.take_piece.result is.stepped is.err c.requires.late in
     record {
       through = through_call past_of failures o old new call;
