@@ -1,6 +1,7 @@
 -- What a step of the builder is, and a run of such steps.
 use Rattle.std.specs.FinMap.{get}
-use Rattle.std.specs.Prelude.{Err, List, Ok, Result, None, Option, Some, [], length, min, nat_lt, if◌then◌else◌, ℕ, ◌+◌, ◌++◌, ◌<◌, ◌∷◌, ◌≡◌}
+use Rattle.std.specs.Prelude.{Err, List, Ok, Result, None, Option, Some, []}
+use Rattle.std.specs.Prelude.{length, min, nat_lt, if◌then◌else◌, ℕ, ◌+◌, ◌++◌, ◌<◌, ◌∷◌, ◌≡◌}
 use Rattle.record_values.specs.declared.limits.TheConstants.{ATTEMPTS_PER_CHECKPOINT}
 use Rattle.record_values.specs.declared.pair.Mark.{Mark}
 use Rattle.record_values.specs.declared.pair.Mark.TheVariants.{Live}

@@ -26,7 +26,8 @@ IsSaved m start most notes saved.All = (end : Option Pair) × IsPieceOf m start 
 -- this many live entries lead from a start to this end, each the least one above the one before it
 pub data IsPastLive (m : Index) (start : Option Pair) : ℕ → Option Pair → Type 0 where
   at_start : IsPastLive m start 0 start
-  past : {n : ℕ} {middle : Option Pair} (p : Pair) → IsPastLive m start n middle → IsLeastAbove m middle (Some (p, Live))
+  past : {n : ℕ} {middle : Option Pair} (p : Pair) → IsPastLive m start n middle
+      → IsLeastAbove m middle (Some (p, Live))
       → IsPastLive m start (n + 1) (Some p)
 
 -- where the next marked entry is: past live ones, or there is none, or the first ones are all live

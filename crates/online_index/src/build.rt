@@ -1,12 +1,14 @@
 //! The builder's calls.
-ghost use Rattle.std.specs.Prelude.{◌≡◌, ◌⊎◌, ◌+◌, ◌≤◌, ◌++◌, None, Some, if◌then◌else◌, List, IfErr, IfOk, IfSome, OnErr, OnOk, min, ℕ};
+ghost use Rattle.std.specs.Prelude.{◌≡◌, ◌⊎◌, ◌+◌, ◌≤◌, ◌++◌, None, Some, if◌then◌else◌, List, IfErr, IfOk};
+ghost use Rattle.std.specs.Prelude.{IfSome, OnErr, OnOk, min, ℕ};
 ghost use Rattle.std.specs.FinMap as map;
 ghost use Rattle.record_values.specs.Maps.{set_at};
 ghost use Rattle.online_model.specs.World as step;
 ghost use Rattle.online_model.specs.World.{IsBuilding, World, after, built};
 ghost use Rattle.online_model.specs.declared.life.Life.TheVariants as life;
 ghost use Rattle.online_model.specs.declared.note.Note.{Note};
-ghost use Rattle.online_index.specs.Builds.{HasMade, HasMadeRun, IsCount, IsPlacing, IsStop, attempt_of, attempts_after};
+ghost use Rattle.online_index.specs.Builds.{HasMade, HasMadeRun, IsCount, IsPlacing, IsStop, attempt_of};
+ghost use Rattle.online_index.specs.Builds.{attempts_after};
 ghost use Rattle.online_index.specs.Builds.{due_of, listed, note_of, reply_due, step_of, stop_of};
 ghost use Rattle.online_index.specs.Pages.{IsPage};
 ghost use Rattle.online_index.specs.Standing.{StandsFor};
@@ -265,8 +267,8 @@ impl<E: Entries, W: Walk> OnlineIndex<E, W> {
     }
 
     /// Steps of the builder, at most this many, one after another as long as no page is wanted and the index is not
-    /// complete; each as `build_step`. Their notes are appended in their order, also where a later step is refused: they
-    /// are to be logged then too.
+    /// complete; each as `build_step`. Their notes are appended in their order, also where a later step is refused:
+    /// they are to be logged then too.
     pub fn build_many<B: Allocator>(
         &mut self,
         most: u32,

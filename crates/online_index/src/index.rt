@@ -1,5 +1,6 @@
 //! The index, and the calls of the host that changes rows.
-ghost use Rattle.std.specs.Prelude.{◌≡◌, ◌⊎◌, ◌↔◌, ◌≤◌, None, Some, IfErr, IfOk, IfNone, IfSome, IsTrue, OnErr, OnOk, false};
+ghost use Rattle.std.specs.Prelude.{◌≡◌, ◌⊎◌, ◌↔◌, ◌≤◌, None, Some, IfErr, IfOk, IfNone, IfSome};
+ghost use Rattle.std.specs.Prelude.{IsTrue, OnErr, OnOk, false};
 ghost use Rattle.std.specs.FinMap as map;
 ghost use Rattle.std.specs.Option.{option_copied};
 ghost use Rattle.record_values.specs.Maps.{set_at};

@@ -23,7 +23,8 @@ pub fn every_index()
         → StandsFor v w → (r : Place) (key : List ℕ) → w.rows r ≡ Some key → w.busy r ≡ false
         → IsCovered v (pair_at r key) → get v.entries (pair_at r key) ≡ Some Mark.Live }
     ensures exact { (begun w : World) (steps : List Step) (v : IndexValue) → IsCreated begun → Runs begun steps w
-        → StandsFor v w → v.life ≡ Complete → IsQuiet w → (p : Pair) → (get v.entries p ≡ Some Mark.Live) ↔ IsOfRow w p }
+        → StandsFor v w → v.life ≡ Complete → IsQuiet w → (p : Pair)
+        → (get v.entries p ≡ Some Mark.Live) ↔ IsOfRow w p }
 {
     every_order();
 }

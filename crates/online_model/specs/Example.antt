@@ -5,8 +5,8 @@ use Rattle.std.specs.Prelude.{List, None, Option, Some, [], false, ℕ, ◌∷�
 use Rattle.record_values.specs.Values.{Place}
 use Rattle.record_values.specs.declared.pair.Pair.{Pair}
 use Rattle.online_model.specs.declared.life.Life.TheVariants.{Building}
-use Rattle.online_model.specs.World.{Attempt, Change, Checkpoint, Clean, Finish, Mark, Put, Reopen, Step, TakePage, World}
-use Rattle.online_model.specs.World.{after, is_pair_of, pair_at, with_at}
+use Rattle.online_model.specs.World.{Attempt, Change, Checkpoint, Clean, Finish, Mark, Put, Reopen, Step, TakePage}
+use Rattle.online_model.specs.World.{World, after, is_pair_of, pair_at, with_at}
 
 -- the first two places of a table of one page
 abbrev pub first : Place

@@ -1,7 +1,8 @@
 //! Notes of an index as bytes, for the log of the host.
 //!
-//! Proved: a note has one spelling, of at most 63 bytes (`encode`). Bytes are decoded exactly where they are the spelling
-//! of a note, and then as a note with that spelling (`decode`). Two notes with one spelling are one (`one_note`).
+//! Proved: a note has one spelling, of at most 63 bytes (`encode`). Bytes are decoded exactly where they are the
+//! spelling of a note, and then as a note with that spelling (`decode`). Two notes with one spelling are one
+//! (`one_note`).
 #![tactic(auto)]
 
 mod laws;
