@@ -5,7 +5,8 @@ use Rattle.std.specs.Result.{IsErr}
 use Rattle.record_values.specs.declared.error.Error.{Error}
 use Rattle.record_values.specs.declared.pair.Mark.{Mark}
 use Rattle.record_values.specs.declared.pair.Pair.{Pair}
-use Rattle.online_index.specs.Builds.{HasMade, HasMadeRun, IsCount, IsStop, attempt_of, checkpoint_due, due_of, listed, note_of, page_due, pair_due, reply_due, step_of, stop_of}
+use Rattle.online_index.specs.Builds.{HasMade, HasMadeRun, IsCount, IsStop, attempt_of, checkpoint_due, due_of}
+use Rattle.online_index.specs.Builds.{listed, note_of, page_due, pair_due, reply_due, step_of, stop_of}
 use Rattle.online_index.specs.Standing.{StandsFor}
 use Rattle.online_index.specs.Value.{IndexValue}
 use Rattle.online_index.specs.declared.build.BuildStep.{BuildStep}

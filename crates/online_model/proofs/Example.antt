@@ -1,5 +1,6 @@
 -- The worked run.
-use Rattle.std.proofs.Common.{Bool, List, None, Some, [], ap, arith, false, inl, inr, nat_eq, not, refl, subst, suc, sym, true, true≢false, zero, ℕ, ◌&&◌, ◌<◌, ◌||◌, ◌∙◌, ◌≡◌, ◌≢◌}
+use Rattle.std.proofs.Common.{Bool, List, None, Some, [], ap, arith, false, inl, inr, nat_eq, not, refl}
+use Rattle.std.proofs.Common.{subst, suc, sym, true, true≢false, zero, ℕ, ◌&&◌, ◌<◌, ◌||◌, ◌∙◌, ◌≡◌, ◌≢◌}
 use Rattle.std.proofs.Common.{◌∷◌, ◌⊎◌}
 use Rattle.std.specs.FinMap.{empty, get, get-empty}
 use Rattle.std.specs.Ordering.{eq_by_cmp}
@@ -12,7 +13,8 @@ use Rattle.record_values.specs.declared.pair.Pair.{Pair}
 use Rattle.online_model.proofs.Orders.{not_none, pair_by_test, rid_decided, same_some, with_apart}
 use Rattle.online_model.specs.Example.{created, first, kept, last, no_row, one_row, rolled_back, second, steps}
 use Rattle.online_model.specs.Keeping.{IsCreated, IsQuiet}
-use Rattle.online_model.specs.World.{Attempt, CanAttempt, CanClean, CanFinish, Change, Checkpoint, Clean, Finish, IsMarkedAt, IsReadOf, Mark, Put, Reopen, Runs, Step, TakePage, World}
+use Rattle.online_model.specs.World.{Attempt, CanAttempt, CanClean, CanFinish, Change, Checkpoint, Clean, Finish}
+use Rattle.online_model.specs.World.{IsMarkedAt, IsReadOf, Mark, Put, Reopen, Runs, Step, TakePage, World}
 use Rattle.online_model.specs.World.{after, built, is_among, is_pair_of, no_step, one_step, pair_at, with_at}
 
 -- ---- the worlds, one after another

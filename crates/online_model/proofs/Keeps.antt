@@ -1,5 +1,6 @@
 -- Each step keeps the invariant.
-use Rattle.std.proofs.Common.{Bool, List, None, Option, Some, ap, false, inl, inr, nat_eq, not, refl, subst, sym, true, true≢false, ℕ, ◌&&◌, ◌||◌, ◌∙◌, ◌≡◌, ◌≢◌}
+use Rattle.std.proofs.Common.{Bool, List, None, Option, Some, ap, false, inl, inr, nat_eq, not}
+use Rattle.std.proofs.Common.{refl, subst, sym, true, true≢false, ℕ, ◌&&◌, ◌||◌, ◌∙◌, ◌≡◌, ◌≢◌}
 use Rattle.std.proofs.Common.{◌⊎◌}
 use Rattle.std.proofs.lemmas.Bool.Decides.{eqb_tells}
 use Rattle.std.specs.FinMap.{get, get-empty}
@@ -12,7 +13,8 @@ use Rattle.record_values.specs.declared.pair.Mark.TheVariants.{Live, Marked}
 use Rattle.record_values.specs.declared.pair.Pair.{Pair}
 use Rattle.online_model.specs.declared.life.Life.{Life}
 use Rattle.online_model.specs.declared.life.Life.TheVariants.{Building, Complete}
-use Rattle.online_model.proofs.Orders.{above_trans, not_above, not_none, pair_by_test, pair_decided, pair_is, rid_decided, same_some, test_by_pair, with_apart, with_here}
+use Rattle.online_model.proofs.Orders.{above_trans, not_above, not_none, pair_by_test, pair_decided}
+use Rattle.online_model.proofs.Orders.{pair_is, rid_decided, same_some, test_by_pair, with_apart, with_here}
 use Rattle.online_model.specs.Keeping.{Invariant, IsAhead, IsCovered, IsCreated, IsQuiet, IsToCome, IsVisibleOrAhead, ShowsExactlyTheRows}
 use Rattle.online_model.specs.World as step
 use Rattle.online_model.specs.World.{CanAttempt, CanClean, CanFinish, IsBuilding, IsEnabled, IsMarkedAt, IsOfRow, IsPassed, IsReadOf, Runs, Step, World}
@@ -115,7 +117,8 @@ module _ (w : World) (i : Invariant w) (p : Pair) where
 
   not_it : (key : List ℕ) → w.rows p.rid ≡ Some key → busy' p.rid ≡ false → pair_at p.rid key ≢ p
   not_it key e quiet same =
-      true≢false (sym (test_by_pair (w.rows p.rid) p (e ∙ ap (λ (q : Pair). Some q.key) same)) ∙ neither (is_pair_of (w.rows p.rid) p) _ (sym busy_here ∙ quiet))
+      true≢false (sym (test_by_pair (w.rows p.rid) p (e ∙ ap (λ (q : Pair). Some q.key) same))
+      ∙ neither (is_pair_of (w.rows p.rid) p) _ (sym busy_here ∙ quiet))
 
   was_quiet : busy' p.rid ≡ false → w.busy p.rid ≡ false
   was_quiet quiet = neither_right (is_pair_of (w.rows p.rid) p) _ (sym busy_here ∙ quiet)
@@ -206,7 +209,8 @@ module _ (w : World) (i : Invariant w) (r : Place) (key : Option (List ℕ)) (ca
   -- the pair that the row had is not visible, and above the builder it has an entry
   old_pair : (q : Pair) → q.rid ≡ r → IsOfRow w q → (get w.entries q ≡ Some Marked) ⊎ (get w.entries q ≡ None) × IsPassed w.life q
   old_pair q same is =
-      subst (λ p. (get w.entries p ≡ Some Marked) ⊎ (get w.entries p ≡ None) × IsPassed w.life p) (pair_is q r q.key refl same) (can q.key (ap w.rows (sym same) ∙ is))
+      subst (λ p. (get w.entries p ≡ Some Marked) ⊎ (get w.entries p ≡ None) × IsPassed w.life p)
+      (pair_is q r q.key refl same) (can q.key (ap w.rows (sym same) ∙ is))
 
   old_unseen : (q : Pair) → q.rid ≡ r → IsOfRow w q → get w.entries q ≡ Some Live → ⊥
   old_unseen q same is live = elim (old_pair q same is) [ inl marked ↦ absurd (two_marks live marked) | inr gone ↦ absurd (not_none live gone.0) ]

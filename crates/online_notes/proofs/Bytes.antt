@@ -1,5 +1,6 @@
 -- Spellings of pairs and notes, and what they spell.
-use Rattle.std.proofs.Common.{List, None, Option, Some, [], ap, arith, cond, drop, get_or, length, length-append, nat_eq, refl, sym, take, take-append-drop, ℕ, ◌+◌, ◌++◌, ◌<◌, ◌∙◌, ◌^◌, ◌∷◌, ◌≡◌}
+use Rattle.std.proofs.Common.{List, None, Option, Some, [], ap, arith, cond, drop, get_or, length, length-append}
+use Rattle.std.proofs.Common.{nat_eq, refl, sym, take, take-append-drop, ℕ, ◌+◌, ◌++◌, ◌<◌, ◌∙◌, ◌^◌, ◌∷◌, ◌≡◌}
 use Rattle.std.specs.Int.{from_be_bytes, w16, w32}
 use Rattle.std.proofs.lemmas.Nat.{be_bytes_2, be_bytes_4, from_be_bytes-to_be_bytes_2, from_be_bytes-to_be_bytes_4}
 use Rattle.online_model.specs.declared.life.Life.TheVariants.{Building, Complete}
