@@ -1,5 +1,5 @@
 -- A handle is its pointer, and what is owned there.
-use Rattle.std.proofs.Common.{◌≡◌, List, [], ◌∷◌, refl, Option}
+use Rattle.std.proofs.Common.{List, [], ◌∷◌, refl, Option}
 use seplogic.Ra.Ura.{Ura}
 use mir.Val.{Val, vstruct, vcons, vnil}
 use types.Logic.{Logic}
@@ -12,7 +12,6 @@ use denote.Struct.Struct.{within}
 use denote.Struct.Owning.{shape}
 use Rattle.nsf_c.specs.Owned.{owned}
 use Rattle.nsf_c.specs.declared.held.Held.{Held}
-use Rattle.nsf_c.specs.declared.handle.Handle.{Handle}
 use Rattle.nsf_c.specs.contracts.held.Held as held
 use Rattle.nsf_c.specs.contracts.handle.Handle as handle
 

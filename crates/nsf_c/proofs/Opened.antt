@@ -1,5 +1,5 @@
 -- What was opened is put under the handle, or its refusal told.
-use Rattle.std.proofs.Common.{◌≡◌, ℕ, ◌≤◌, Option, Some, None, Result, Ok, Err, IfOk, IfErr, sym, ◌∙◌, arith}
+use Rattle.std.proofs.Common.{◌≡◌, ℕ, ◌≤◌, Option, Some, None, Result, Ok, Err, IfOk, IfErr, arith}
 use Rattle.std.specs.Global.{Box}
 use Rattle.record_values.specs.declared.error.Error.{Error}
 use Rattle.record_values.specs.declared.error.Error.TheVariants.{NoMemory, DeviceFailed, NotFormatted, Damaged, DeviceTooSmall, BadGeometry, TooManyTxns}

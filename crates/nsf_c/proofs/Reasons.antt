@@ -1,5 +1,5 @@
 -- A scan is refused for one reason at most.
-use Rattle.std.proofs.Common.{rules, arith, ◌≡◌, ◌≤◌, ◌<◌, ◌⊎◌, ℕ, List, inl, inr}
+use Rattle.std.proofs.Common.{rules, arith, ◌≡◌, ◌⊎◌, ℕ, List, inl, inr}
 use Rattle.nsf_c.specs.Scans.{IsFine, IsNoBound, IsNoPair, IsNoRange}
 use Rattle.nsf_c.specs.declared.bounds.Bounds.{Bounds}
 

@@ -10,7 +10,7 @@ use Rattle.record_values.specs.declared.rid.TheConstants.{SLOTS_PER_PAGE}
 use Rattle.record_values.specs.declared.error.Error.{Error}
 use Rattle.record_values.specs.declared.error.Error.TheVariants.{NoMemory, DeviceFailed, BadGeometry}
 use Rattle.sector_device.specs.DevicePast.{Rises}
-use Rattle.sector_device.specs.Disk.{CrashState, sector, IsSynced, SameOutside}
+use Rattle.sector_device.specs.Disk.{CrashState, IsSynced, SameOutside}
 use Rattle.sector_device.specs.Values.{zero_sector}
 use Rattle.store_file.specs.FileDisk.{past_of, failures_of}
 use Rattle.flip_image.specs.declared.half.Half.TheVariants.{A}
@@ -32,7 +32,7 @@ use Rattle.nsf_c.specs.declared.spot.Spot.{Spot}
 use Rattle.nsf_c.specs.declared.told.Told.{Told}
 use Rattle.nsf_c.specs.declared.told.Stat.{Stat}
 use Rattle.nsf_c.specs.Asked.{Asks, IsBad}
-use Rattle.nsf_c.specs.Handles.{Disk, Opened, Holds, Moves, Reads}
+use Rattle.nsf_c.specs.Handles.{Disk, Opened, Moves}
 use Rattle.nsf_c.specs.Spots.{FillsWith}
 use Rattle.nsf_c.specs.Told.{plain, life_told, row_told, told_of, status_of}
 

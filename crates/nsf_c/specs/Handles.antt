@@ -1,5 +1,5 @@
 -- A handle, and the store that is open under it.
-use Rattle.std.specs.Prelude.{◌≡◌, Option, Some, None}
+use Rattle.std.specs.Prelude.{◌≡◌, Some, None}
 use Rattle.std.specs.declared.alloc.Global.{Global}
 use Rattle.store_file.specs.declared.mirror.FileDisk.{FileDisk}
 use Rattle.program_commands.specs.declared.guarded.GuardedStore.{GuardedStore}

@@ -1,5 +1,5 @@
 -- What C is told for a reply of the engine.
-use Rattle.std.specs.Prelude.{ℕ, ◌++◌, List, [], length, drop, replicate, Option, Some, None}
+use Rattle.std.specs.Prelude.{ℕ, ◌++◌, List, length, drop, replicate, Option, Some, None}
 use Rattle.std.specs.declared.alloc.Global.{Global}
 use Rattle.record_values.specs.Values.{Place}
 use Rattle.record_values.specs.Refusals.{number_of}

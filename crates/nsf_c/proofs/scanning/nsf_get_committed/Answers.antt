@@ -1,7 +1,6 @@
-use Rattle.std.proofs.Common.{◌∙◌, ap, inl, inr, Option}
+use Rattle.std.proofs.Common.{◌∙◌, ap, inl, inr}
 use Rattle.std.specs.FinMap as map
 use Rattle.record_values.specs.Values.{Place}
-use Rattle.record_values.specs.declared.row.Row.{Row}
 use Rattle.core_laws.specs.Holds.{committed_rows}
 use Rattle.core_parts.specs.View.{CoreValue}
 use Rattle.restart.specs.Parts.{core_of}

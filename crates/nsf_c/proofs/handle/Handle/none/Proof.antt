@@ -1,8 +1,7 @@
 -- A handle at null owns nothing.
-use Rattle.std.proofs.Common.{List, [], ◌∷◌, refl, None, lit<}
+use Rattle.std.proofs.Common.{[], ◌∷◌, refl, None, lit<}
 use mir.Val.{Val, vstruct, vcons, vnil}
-use contract.Running.{tables}
-use types.Kit.{raw, ◌$◌, ◌∵◌, !, qed, keep, join, fjoin, suffices, done}
+use types.Kit.{raw, ◌$◌, ◌∵◌, !, qed, keep, join, suffices, done}
 use types.Run.{enter, lit, no_more, and_then, returns}
 use types.ByLocal.{alloc_all, pass_all, free_all, look_at, sets}
 use types.Part.{agg}
@@ -12,7 +11,6 @@ use denote.Triple.Entry.{on_entry}
 use denote.Triple.Walked.{Stays, says, ends_at}
 use Rattle.std.proofs.raw_atomic.Walks.{proved}
 use Rattle.nsf_c.proofs.Fields.{handle_in}
-use Rattle.nsf_c.specs.declared.handle.Handle.{Handle}
 use Rattle.nsf_c.specs.contracts.handle.Handle.none as f
 use Rattle.nsf_c.proofs.handle.Handle.none.Statement.{statement}
 use Rattle.nsf_c.proofs.handle.Handle.none.Code as code

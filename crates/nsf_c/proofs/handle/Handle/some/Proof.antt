@@ -9,7 +9,6 @@ use types.Kit.{‵, raw, ◌⊛◌, ◌$◌, ◌∵◌, !, qed, move, keep, spli
 use types.Run.{enter, of_opd, stop, fld, no_more, and_then, returns}
 use types.ByLocal.{alloc_all, pass_all, free_all, look_at, get, get_in, sets}
 use types.Part.{whole, sub, agg}
-use denote.Exit.{yes}
 use denote.RattleType.{RattleType, owns}
 use denote.RawPtr.{block_ptr}
 use denote.Signature.{plain, types_at}
