@@ -7,12 +7,26 @@ use std::io::{BufReader, IsTerminal};
 use std::process::ExitCode;
 use std::{env, io};
 
-// Where `run` reads a terminal, a prompt is asked for.
+// Whether this is among the words.
+fn has_word(words: &[String], wanted: &str) -> bool {
+    words.iter().any(|word| word.as_str() == wanted)
+}
+
+fn add_word(rt: &HostRuntime, words: &mut Vec<String>, word: &str) -> io::Result<()> {
+    words.push(String::from_str(rt.alloc(), word)?)?;
+    Ok(())
+}
+
+// Where `run` reads a terminal, a prompt is asked for, and that each commit is flushed.
 fn add_prompt(rt: &HostRuntime, words: &mut Vec<String>) -> io::Result<()> {
-    let runs = is_to(words.as_slice(), "run");
-    let is_asked = words.iter().any(|word| word.as_str() == "--prompt");
-    if runs && !is_asked && rt.stdin().is_terminal() {
-        words.push(String::from_str(rt.alloc(), "--prompt")?)?;
+    if !is_to(words.as_slice(), "run") || !rt.stdin().is_terminal() {
+        return Ok(());
+    }
+    if !has_word(words.as_slice(), "--prompt") {
+        add_word(rt, words, "--prompt")?;
+    }
+    if !has_word(words.as_slice(), "--durable") && !has_word(words.as_slice(), "--lazy") {
+        add_word(rt, words, "--durable")?;
     }
     Ok(())
 }
@@ -25,9 +39,8 @@ fn is_to(words: &[String], verb: &str) -> bool {
 // Where `build` or `load` tells a terminal of it, progress is asked for.
 fn add_progress(rt: &HostRuntime, words: &mut Vec<String>) -> io::Result<()> {
     let shows = is_to(words.as_slice(), "build") || is_to(words.as_slice(), "load");
-    let is_asked = words.iter().any(|word| word.as_str() == "--progress");
-    if shows && !is_asked && rt.stderr().is_terminal() {
-        words.push(String::from_str(rt.alloc(), "--progress")?)?;
+    if shows && !has_word(words.as_slice(), "--progress") && rt.stderr().is_terminal() {
+        add_word(rt, words, "--progress")?;
     }
     Ok(())
 }
@@ -40,20 +53,23 @@ fn words(rt: &HostRuntime) -> io::Result<Vec<String>> {
     Ok(words)
 }
 
-fn main(rt: HostRuntime) -> io::Result<ExitCode> {
-    let words = match words(&rt) {
-        Ok(words) => words,
-        Err(error) => {
-            let status = program_shell::refuse_words("nsf-store", error, &mut rt.stderr());
-            return Ok(ExitCode::from(status));
-        }
-    };
-    let status = program_shell::run(
-        &rt,
+// Runs the program, and answers its exit status. The error is that its words can't be read, or its input.
+fn run(rt: &HostRuntime) -> io::Result<u8> {
+    let words = words(rt)?;
+    let mut input = BufReader::new(rt.alloc(), rt.reader())?;
+    Ok(program_shell::run(
+        rt,
         words.as_slice(),
-        &mut BufReader::new(rt.alloc(), rt.reader())?,
-        &mut io::writer(&rt),
+        &mut input,
+        &mut io::writer(rt),
         &mut rt.stderr(),
-    );
-    Ok(ExitCode::from(status))
+    ))
+}
+
+fn main(rt: HostRuntime) -> ExitCode {
+    let status = match run(&rt) {
+        Ok(status) => status,
+        Err(error) => program_shell::refuse_words("nsf-store", error, &mut rt.stderr()),
+    };
+    ExitCode::from(status)
 }

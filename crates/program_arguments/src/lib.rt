@@ -30,7 +30,7 @@ use sector_device::Fate;
 use std::alloc::{AllocError, Global};
 use std::convert::AsStr;
 use std::io::Write;
-pub use store::{Asked, Build, Export, Order, Serving, Verb, read_asked};
+pub use store::{Asked, Build, Export, Order, Serving, Size, Verb, read_asked};
 pub use threads::{ThreadsArguments, read_threads};
 
 /// The version of the programs.

@@ -11,6 +11,8 @@ pub struct LoadArguments {
     /// The names of their columns, where they are given.
     pub key: Option<String>,
     pub body: Option<String>,
+    /// Whether the first record is a row, and no header.
+    pub has_no_header: bool,
     /// Whether the count of rows is shown.
     pub shows_progress: bool,
 }
@@ -24,6 +26,7 @@ pub(crate) fn load_of(
         rows: String::from_str(alloc, matches.get_str("ROWS").unwrap_or(""))?,
         key: word_in(alloc, matches, "key")?,
         body: word_in(alloc, matches, "body")?,
+        has_no_header: matches.get_flag("no-header"),
         shows_progress: matches.get_flag("progress"),
     })
 }

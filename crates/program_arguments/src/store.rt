@@ -4,6 +4,7 @@ use crate::scan::{ScanArguments, scan_of};
 use crate::size::{PAGES, entries_for, pages_for, slots_for};
 use crate::tell;
 use crate::verbs::command;
+use clap::error::ErrorKind;
 use clap::{ArgMatches, Error};
 use std::alloc::{AllocError, Global};
 use std::convert::AsStr;
@@ -50,16 +51,19 @@ pub struct Export {
     pub is_json: bool,
 }
 
+/// How large a store is to be.
+#[derive(Clone, Copy)]
+pub struct Size {
+    pub pages: u32,
+    pub entries: u32,
+    pub slots: u32,
+}
+
 /// What is to be done with the file.
 #[derive(Clone, Copy)]
 pub enum Verb {
-    /// A store of this geometry is made in it, a file of blocks where that is wanted.
-    New {
-        pages: u32,
-        entries: u32,
-        slots: u32,
-        has_blocks: bool,
-    },
+    /// A store of this size is made in it, a file of blocks where that is wanted.
+    New { size: Size, has_blocks: bool },
     /// The commands of the input are served.
     Run(Serving),
     /// It is read, and what is wrong with it is said.
@@ -98,6 +102,8 @@ pub enum Asked {
         old: String,
         new: String,
         has_blocks: bool,
+        /// How large that was made, where its own first sector is not to say so.
+        size: Option<Size>,
     },
     /// The store in a file is copied to a new file of the same kind.
     Backup {
@@ -124,12 +130,36 @@ fn pages_in(matches: &ArgMatches<'_>) -> u32 {
     }
 }
 
-fn new_of(matches: &ArgMatches<'_>) -> Verb {
+// How large a store is to be; what isn't given of that follows from its pages.
+fn size_in(matches: &ArgMatches<'_>) -> Size {
     let pages = pages_in(matches);
-    Verb::New {
+    Size {
         pages,
         entries: number_in(matches, "entries", entries_for(pages)),
         slots: number_in(matches, "slots", slots_for(pages)),
+    }
+}
+
+fn has_number(matches: &ArgMatches<'_>, name: &str) -> bool {
+    matches.get_one::<u32>(name).is_some()
+}
+
+// The same, where any of it is given.
+fn size_given(matches: &ArgMatches<'_>) -> Option<Size> {
+    let is_given = has_number(matches, "rows")
+        || has_number(matches, "pages")
+        || has_number(matches, "entries")
+        || has_number(matches, "slots");
+    if is_given {
+        Some(size_in(matches))
+    } else {
+        None
+    }
+}
+
+fn new_of(matches: &ArgMatches<'_>) -> Verb {
+    Verb::New {
+        size: size_in(matches),
         has_blocks: matches.get_flag("blocks"),
     }
 }
@@ -205,6 +235,7 @@ fn move_of(alloc: Global, name: &str, matches: &ArgMatches<'_>) -> Result<Asked,
             old,
             new,
             has_blocks: matches.get_flag("blocks"),
+            size: size_given(matches),
         },
     })
 }
@@ -252,9 +283,20 @@ fn asked_in<S: AsStr>(alloc: Global, words: &[S]) -> Result<Asked, Error> {
     Ok(asked?)
 }
 
+// Says what there is to say in place of what words ask for, and answers the exit status.
+fn tell_why<W: Write, E: Write>(error: &Error, output: &mut W, errors: &mut E) -> u8 {
+    match error.kind() {
+        ErrorKind::OutOfMemory => {
+            let _ = writeln!(errors, "nsf-store: out of memory");
+            1
+        }
+        _ => tell(error, output, errors),
+    }
+}
+
 /// What the words of `nsf-store` ask for, the first of which is the program's own name. Or what there is to say in
 /// place of it is said, and the exit status answered: 0 for help and version, on the output, or 1 where that can't be
-/// written; 2 for bad words, on the error stream.
+/// written; 2 for bad words, on the error stream, or 1 where there is no memory for them.
 pub fn read_asked<S: AsStr, W: Write, E: Write>(
     alloc: Global,
     words: &[S],
@@ -264,7 +306,7 @@ pub fn read_asked<S: AsStr, W: Write, E: Write>(
     match asked_in(alloc, words) {
         Ok(asked) => Ok(asked),
         Err(error) => {
-            let status = tell(&error, output, errors);
+            let status = tell_why(&error, output, errors);
             drop(error);
             Err(status)
         }

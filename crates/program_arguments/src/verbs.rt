@@ -10,7 +10,7 @@ use std::alloc::{AllocError, Global};
 const ABOUT: &str =
     "Keeps a table with an index in a file. The index is built while the table is written
 
-Exit status: 0 where it was done, refused commands included; 1 where the file or the store was refused, told on the error stream, or a line was no command, told in its place; 2 for bad words; 3 where a command was refused, with --stop-on-refusal, or a row by `load`";
+Exit status: 0 where it was done, refused commands included; 1 where the file or the store was refused, told on the error stream, or a line was no command, told in its place; 2 for bad words; 3 where a command was refused or skipped, with --stop-on-refusal, or a row by `load`";
 
 // The most seconds that a file is waited for: a day.
 const WAIT_MAX: u32 = 86_400;
@@ -50,6 +50,63 @@ const WAIT: Form = Form {
     help: "Waits so many seconds for a file that another process has open, 0 to 86400 [default: 0]",
 };
 
+const ROWS: Form = Form {
+    name: "rows",
+    takes: Takes::Number("N", 1, ROWS_MAX),
+    apart_from: Some("pages"),
+    help: "Makes room for so many rows, 1 to 4128768, in place of a number of pages",
+};
+
+const PAGES: Form = Form {
+    name: "pages",
+    takes: Takes::Number("N", 1, LARGE_PAGES_MAX),
+    apart_from: None,
+    help: "Pages of the table, each with room for 63 rows, 1 to 65536 [default: 16]",
+};
+
+const ENTRIES: Form = Form {
+    name: "entries",
+    takes: Takes::Number("N", ENTRIES_MIN, LARGE_ENTRIES_MAX),
+    apart_from: None,
+    help: "Places for entries of the index, 64 to 8388608 [default: four for each row that the pages hold, if there can be so many]",
+};
+
+const SLOTS: Form = Form {
+    name: "slots",
+    takes: Takes::Number("N", LOG_SLOTS_MIN, LARGE_LOG_SLOTS_MAX),
+    apart_from: None,
+    help: "Slots of each log, 4 to 16384 [default: 16, and for more than 256 pages 16 for each 1000 rows that they hold]",
+};
+
+// The same of a store that is salvaged.
+const OLD_ROWS: Form = Form {
+    name: "rows",
+    takes: Takes::Number("N", 1, ROWS_MAX),
+    apart_from: Some("pages"),
+    help: "Takes the store's size from here, and not from its first sector: the numbers that `new` was given, or has by itself beside these",
+};
+
+const OLD_PAGES: Form = Form {
+    name: "pages",
+    takes: Takes::Number("N", 1, LARGE_PAGES_MAX),
+    apart_from: None,
+    help: "Likewise",
+};
+
+const OLD_ENTRIES: Form = Form {
+    name: "entries",
+    takes: Takes::Number("N", ENTRIES_MIN, LARGE_ENTRIES_MAX),
+    apart_from: None,
+    help: "Likewise",
+};
+
+const OLD_SLOTS: Form = Form {
+    name: "slots",
+    takes: Takes::Number("N", LOG_SLOTS_MIN, LARGE_LOG_SLOTS_MAX),
+    apart_from: None,
+    help: "Likewise",
+};
+
 // A verb: its name, what help says of it, and its arguments.
 type VerbForm = (&'static str, &'static str, &'static [Form]);
 
@@ -57,34 +114,7 @@ static VERBS: [VerbForm; 12] = [
     (
         "new",
         "Makes a store in a new file",
-        &[
-            FILE,
-            Form {
-                name: "rows",
-                takes: Takes::Number("N", 1, ROWS_MAX),
-                apart_from: Some("pages"),
-                help: "Makes room for so many rows, 1 to 4128768, in place of a number of pages",
-            },
-            Form {
-                name: "pages",
-                takes: Takes::Number("N", 1, LARGE_PAGES_MAX),
-                apart_from: None,
-                help: "Pages of the table, each with room for 63 rows, 1 to 65536 [default: 16]",
-            },
-            Form {
-                name: "entries",
-                takes: Takes::Number("N", ENTRIES_MIN, LARGE_ENTRIES_MAX),
-                apart_from: None,
-                help: "Places for entries of the index, 64 to 8388608 [default: four for each row that the pages hold, if there can be so many]",
-            },
-            Form {
-                name: "slots",
-                takes: Takes::Number("N", LOG_SLOTS_MIN, LARGE_LOG_SLOTS_MAX),
-                apart_from: None,
-                help: "Slots of each log, 4 to 16384 [default: 16, and for more than 256 pages 16 for each 1000 rows that they hold]",
-            },
-            BLOCKS,
-        ],
+        &[FILE, ROWS, PAGES, ENTRIES, SLOTS, BLOCKS],
     ),
     (
         "run",
@@ -95,13 +125,19 @@ static VERBS: [VerbForm; 12] = [
                 name: "durable",
                 takes: Takes::Nothing,
                 apart_from: None,
-                help: "Flushes each commit before its ticket is answered, and its horizon behind that: no kill loses a commit that was answered",
+                help: "Flushes each commit before its ticket is answered, and its horizon behind that: no kill loses a commit that was answered; so it is where the input is a terminal",
+            },
+            Form {
+                name: "lazy",
+                takes: Takes::Nothing,
+                apart_from: Some("durable"),
+                help: "Flushes no commit by itself, also where the input is a terminal: a kill may lose those that were answered since the last flush",
             },
             Form {
                 name: "stop-on-refusal",
                 takes: Takes::Nothing,
                 apart_from: None,
-                help: "Ends the input at the first command that is refused or line that is none",
+                help: "Ends the input at the first command that is refused or skipped, but for a step that isn't owed, or line that is none",
             },
             Form {
                 name: "prompt",
@@ -192,26 +228,32 @@ static VERBS: [VerbForm; 12] = [
     ),
     (
         "load",
-        "Loads rows from a file of comma-separated fields under a header, 64 a transaction, and prints how many are safe and how many were refused; the error stream says why, by line",
+        "Loads rows from a file of comma-separated fields under a header, 64 a transaction, and prints how many are safe and how many were refused; the error stream says which columns are taken, and what is refused, by line",
         &[
             FILE,
             Form {
                 name: "ROWS",
                 takes: Takes::Needed,
                 apart_from: None,
-                help: "The file that has the rows",
+                help: "The file that has the rows, or `-` for the standard input",
             },
             Form {
                 name: "key",
                 takes: Takes::Word("COLUMN"),
                 apart_from: None,
-                help: "The name of the column that has the keys [default: key, or the first two columns are taken where the header has no key and body]",
+                help: "The name of the column that has the keys [default: key]",
             },
             Form {
                 name: "body",
                 takes: Takes::Word("COLUMN"),
-                apart_from: None,
+                apart_from: Some("no-header"),
                 help: "The name of the column that has the bodies [default: body]",
+            },
+            Form {
+                name: "no-header",
+                takes: Takes::Nothing,
+                apart_from: Some("key"),
+                help: "Takes the first record as a row too: each has two fields, the key and the body",
             },
             Form {
                 name: "progress",
@@ -253,7 +295,15 @@ static VERBS: [VerbForm; 12] = [
     (
         "salvage",
         "Puts the rows that can still be read of a damaged store into a new file, without an index, and prints what is lost. The old file is only read",
-        &[OLD, NEW, BLOCKS],
+        &[
+            OLD,
+            NEW,
+            BLOCKS,
+            OLD_ROWS,
+            OLD_PAGES,
+            OLD_ENTRIES,
+            OLD_SLOTS,
+        ],
     ),
 ];
 

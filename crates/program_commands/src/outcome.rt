@@ -14,6 +14,8 @@ pub enum Outcome {
     Refused(Error),
     /// It was refused, since more rows than one have the key.
     Several,
+    /// It was skipped.
+    Skipped,
     /// Anything else.
     Other,
 }
@@ -37,6 +39,7 @@ pub(crate) fn outcome_of(answer: &Answer) -> Outcome
         Answer::Ticket(_) => Outcome::Ticket,
         Answer::Refused(error) => Outcome::Refused(*error),
         Answer::Several(_) => Outcome::Several,
+        Answer::Skipped => Outcome::Skipped,
         _ => Outcome::Other,
     }
 }

@@ -1,15 +1,20 @@
 //! The threads over the store in a file.
 use crate::found::{Found, look};
 use crate::program::work_through;
-use program_files::Refused;
+use block_host::are_blocks;
+use program_files::{Refused, refuse_longer};
 use program_team::{Listener, NotOpened, Team};
 use sector_device::Device;
+use std::alloc::Global;
 use std::fs::File;
 use std::io::Write;
 use std::rt::{Clock, Files};
 use std::sync::Wait;
 use std::thread::Threads;
-use store_file::Troubled;
+use store_file::{FileDisk, HostFile, Troubled};
+
+// A disk in a plain file of the system.
+type HostDisk = FileDisk<HostFile<File>, Global>;
 
 // Why the threads were refused, with the reason that the disk tells.
 fn refused_over<D: Troubled>(error: NotOpened, disk: &D) -> Refused {
@@ -37,6 +42,30 @@ fn work_and_look<
     }
 }
 
+// Why the threads don't work on what the disk of a file holds.
+fn refuse_other(disk: &mut HostDisk) -> Result<(), Refused> {
+    if are_blocks(disk.content()) {
+        return Err(Refused::InBlocks);
+    }
+    refuse_longer(disk)
+}
+
+// The disk in a plain file.
+fn open_plain<R: Files<File = File>>(
+    rt: &R,
+    alloc: Global,
+    path: &str,
+) -> Result<HostDisk, Refused> {
+    let mut disk = store_file::open(rt, alloc, path)?;
+    match refuse_other(&mut disk) {
+        Ok(()) => Ok(disk),
+        Err(refused) => {
+            drop(disk);
+            Err(refused)
+        }
+    }
+}
+
 /// Lets the threads work on the store in the file at the path, carries its build to the end, and looks at what is
 /// there. The file is locked meanwhile.
 pub(crate) fn work_on_file<
@@ -44,11 +73,11 @@ pub(crate) fn work_on_file<
     L: Listener + Sync,
     E: Write + Send + Drop,
 >(path: &str, writers: u8, team: Team<'_, R, L, E>) -> Result<Found, Refused> {
-    match store_file::open(team.rt, team.alloc, path) {
+    match open_plain(team.rt, team.alloc, path) {
         Ok(disk) => work_and_look(disk, writers, team),
-        Err(error) => {
+        Err(refused) => {
             drop(team);
-            Err(Refused::File(error))
+            Err(refused)
         }
     }
 }

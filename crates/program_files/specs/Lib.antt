@@ -2,3 +2,4 @@ pub mod Copied
 pub mod Granted
 pub mod Refusals
 pub mod Stored
+pub mod Lengths

@@ -1,7 +1,7 @@
 //! The index of a store is built to its end, or anew.
 use crate::making::close;
-use crate::opening::open_within;
-use crate::refused::{Refused, granted, refuse_disk};
+use crate::opening::{open_store, open_within};
+use crate::refused::{Refused, granted};
 use block_host::InFile;
 use model::Life;
 use nsf_core::{BuildReply, Core};
@@ -182,14 +182,6 @@ fn build<D: Device + Troubled, W: Write, E: Write>(
     Ok(())
 }
 
-// A store on the disk, opened.
-fn open<D: Device + Troubled + Drop>(alloc: Global, disk: D) -> Result<Store<D>, Refused> {
-    match Store::open(alloc, disk) {
-        Ok(store) => Ok(store),
-        Err((error, disk)) => Err(refuse_disk(error, disk)),
-    }
-}
-
 // Builds the index of the store on the disk to its end, whose use is ended then.
 fn build_disk<D: Device + Troubled + InFile + Drop, W: Write, E: Write>(
     alloc: Global,
@@ -198,7 +190,7 @@ fn build_disk<D: Device + Troubled + InFile + Drop, W: Write, E: Write>(
     output: &mut W,
     errors: &mut E,
 ) -> Result<(), Refused> {
-    let mut store = open(alloc, disk)?;
+    let mut store = open_store(alloc, disk)?;
     let built = build(&mut store, asked, output, errors);
     let ended = close(store.into_device());
     built?;

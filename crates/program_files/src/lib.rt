@@ -8,7 +8,7 @@
 //! the number of its last record. Else it tells what a reader refuses (`refused`). `Refused` says why a file or a store
 //! was refused, to `nsf-store` and to `nsf-threads`: a refused file comes to what `refusal_of` says, and a failed
 //! device to a reason, or none (`IsBecause`; which one, no clause says). Where `refuse_damaged` is content, each sector
-//! fits (`whole`).
+//! fits (`whole`), and where `refuse_longer` is, a store of version 2 or 3 is just as long as its disk (`fits`).
 //!
 //! Only tested: what is said of a file that is no store, or is damaged; that a store of version 2 or 3 is copied as a
 //! whole, also one that is open (`copy_beside`), and that the use of a device is ended. The steps below have the
@@ -19,6 +19,7 @@ mod beside;
 mod building;
 mod copying;
 mod damage;
+mod length;
 mod making;
 mod migration;
 mod opening;
@@ -30,8 +31,9 @@ pub use beside::copy_beside;
 pub use building::build_file;
 pub use copying::{NotCopied, copy_disk};
 pub use damage::{refuse_damaged, write_damaged};
+pub use length::refuse_longer;
 pub use making::{close, make};
 pub use migration::NotMoved;
-pub use opening::{Stored, open_within, read_disk};
+pub use opening::{Stored, open_numbered, open_store, open_within, read_disk};
 pub use refused::{Refused, refuse_disk, refuse_words};
 pub use taking::{Taking, take_over};

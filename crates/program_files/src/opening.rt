@@ -10,13 +10,16 @@ ghost use Rattle.block_host.specs.Opened.{IsOpened, first_read};
 ghost use Rattle.store_file.specs.FileDisk as plain;
 ghost use Rattle.program_files.specs.Stored.{IsNotRead, IsStored};
 
-use crate::refused::Refused;
+use crate::length::refuse_longer;
+use crate::refused::{Refused, refuse_disk};
 use block_host::{OpenDevice, device_in, take_within};
+use program_commands::Store;
 use records::{Error, Geometry, Version};
 use sector_device::Device;
 use std::alloc::Global;
 use std::fs::File;
 use std::rt::{Clock, Files};
+use store_file::{FileNumber, Troubled};
 use store_reader::read_store;
 
 /// What the disk itself says, before the store on it is opened.
@@ -73,4 +76,40 @@ pub fn open_within<R: Files<File = File> + Clock + AllocGlobal>(
 {
     let taken = take_within(rt, &rt.alloc(), path, seconds)?;
     Ok(device_in(rt.alloc(), taken)?)
+}
+
+/// The same, and the number of that file, where the system tells it. The file keeps it, whatever becomes of its name.
+pub fn open_numbered<R: Files<File = File> + Clock + AllocGlobal>(
+    rt: &R,
+    path: &str,
+    seconds: u32,
+) -> Result<(OpenDevice<File, Global>, Option<FileNumber>), Refused>
+    ensures told { IfOk result (λ d. IsInPlain d.0 (λ disk. are_blocks (plain.past_of disk).disk.content ≡ false)) }
+    ensures shown { IfOk result (λ d. IsInBlocks d.0 (λ disk. show_blocks (first_read disk) ≡ true)) }
+    ensures opened { IfOk result (λ d. IsInBlocks d.0 (λ disk. IsOpened disk)) }
+    ensures good { IfOk result (λ d. IsInBlocks d.0 (λ disk. IsGood blocks.past_of disk)) }
+    ensures sound { IfOk result (λ d. IsInPlain d.0 (λ disk. plain.has_failed_of disk ≡ false)) }
+    ensures synced { IfOk result (λ d. IsSynced (past_by plain.past_of (disk_past blocks.past_of) d.0).disk) }
+    ensures failures { IfOk result (λ d. failures_by plain.failures_of (disk_failures blocks.failures_of) d.0 ≡ 0) }
+{
+    let taken = take_within(rt, &rt.alloc(), path, seconds)?;
+    let number = taken.below.number().ok();
+    let disk = device_in(rt.alloc(), taken)?;
+    Ok((disk, number))
+}
+
+/// The store on the disk, opened. Refused where the disk is longer than the store, or as a restart refuses it; the disk
+/// is let go then.
+pub fn open_store<D: Device + Troubled + Drop>(
+    alloc: Global,
+    mut disk: D,
+) -> Result<Store<D>, Refused> {
+    if let Err(refused) = refuse_longer(&mut disk) {
+        drop(disk);
+        return Err(refused);
+    }
+    match Store::open(alloc, disk) {
+        Ok(store) => Ok(store),
+        Err((error, disk)) => Err(refuse_disk(error, disk)),
+    }
 }

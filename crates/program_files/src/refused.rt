@@ -10,7 +10,7 @@ use block_host::DiskError;
 use records::Error;
 use restart::Reply;
 use std::alloc::{AllocError, Global};
-use std::io::Write;
+use std::io::{ErrorKind, Write};
 use std::{fmt, io};
 use store_file::{OpenError, Trouble, Troubled};
 
@@ -19,6 +19,9 @@ const OLD_VERSION: &str =
 
 const FULL_INDEX: &str =
     "its index is full: `nsf-store build --again` drops it, creates it anew and builds it";
+
+const IN_BLOCKS: &str =
+    "it is a file of blocks, and a plain one is wanted: `nsf-store migrate` moves its store to one";
 
 const NO_KEY: &str =
     "a key is `=` and graphic bytes, as `=ant`, or `:` and hexadecimal digits, as `:616e74`";
@@ -34,6 +37,8 @@ pub enum Refused {
     Blocks(FileError),
     /// The device failed, and this is why.
     Device(Trouble),
+    /// It is a file of blocks, where a plain one is wanted.
+    InBlocks,
     /// There is no index.
     NoIndex,
     /// The index isn't complete.
@@ -46,6 +51,8 @@ pub enum Refused {
     SmallIndex,
     /// The store opens, but its index doesn't fit its rows.
     Unsound,
+    /// The disk has more sectors than the store needs that it begins with.
+    Longer { sectors: u64, needed: u64 },
     /// The store that is to be moved is of version 2 or 3 already.
     Newer,
     /// The input can't be read, or the output can't be written.
@@ -141,11 +148,16 @@ pub(crate) fn granted(reply: Reply<Global>) -> Result<(), Refused>
     }
 }
 
-/// Tells why the words of a program can't be read, and answers the exit status for that.
+/// Tells why the words of a program can't be read, and answers the exit status for that: 1 where there is no memory for
+/// them, and else 2.
 pub fn refuse_words<E: Write>(program: &str, error: io::Error, errors: &mut E) -> u8 {
+    let status = match error.kind() {
+        ErrorKind::OutOfMemory => 1,
+        _ => 2,
+    };
     let trouble = Trouble::of(error);
     let _ = writeln!(errors, "{program}: {trouble}");
-    2
+    status
 }
 
 // What a store's refusal says of its file, where that is always the same.
@@ -181,6 +193,18 @@ fn write_file_error<W: fmt::Write>(error: FileError, f: &mut fmt::Formatter<W>) 
     }
 }
 
+// What is said of a disk that is longer than its store.
+fn write_longer<W: fmt::Write>(
+    sectors: u64,
+    needed: u64,
+    f: &mut fmt::Formatter<W>,
+) -> fmt::Result {
+    write!(
+        f,
+        "it has {sectors} sectors, and the store that it begins with {needed}: a number in its first sector may be damaged. `nsf-store salvage` takes the right ones by --pages, --entries and --slots"
+    )
+}
+
 // What is said of a refusal that has no other reason in it.
 fn text_of_refusal(refused: &Refused) -> &'static str {
     match refused {
@@ -188,6 +212,7 @@ fn text_of_refusal(refused: &Refused) -> &'static str {
         Refused::Newer => "it holds a store of version 2 or 3, which needs no move",
         Refused::FullIndex => FULL_INDEX,
         Refused::SmallIndex => "its index has fewer places than the table has rows",
+        Refused::InBlocks => IN_BLOCKS,
         Refused::NotBuilt => "its index isn't complete; `nsf-store build` builds it to its end",
         Refused::NoKey => NO_KEY,
         Refused::NoIndex => "it has no index; `create` in `run` begins one",
@@ -203,6 +228,7 @@ impl fmt::Display for Refused {
             Refused::Blocks(error) => write_file_error(*error, f),
             Refused::Device(trouble) => write!(f, "{trouble}"),
             Refused::Stream(error) => write!(f, "input or output failed: {error}"),
+            Refused::Longer { sectors, needed } => write_longer(*sectors, *needed, f),
             refused => f.write_str(text_of_refusal(refused)),
         }
     }

@@ -4,9 +4,9 @@ use crate::refused::{Refused, granted};
 use flip_image::{Half, Halves, SUPERBLOCK_SECTOR};
 use model::Life;
 use program_commands::Store;
-use records::Error;
+use records::{Error, Geometry};
 use restart::Event;
-use sector_device::Device;
+use sector_device::{Device, SECTOR_SIZE, zero_sector};
 use std::alloc::Global;
 use std::fs::File;
 use std::io;
@@ -49,19 +49,65 @@ fn turn<D: Device>(disk: &mut D) -> Result<(), Error> {
     halves.flip(disk)
 }
 
+// The first sector of a store of this geometry, which is made on the disk.
+fn first_of(disk: &mut Memory, geometry: Geometry) -> Result<[u8; SECTOR_SIZE], Error> {
+    Halves::format(disk, geometry)?;
+    let mut first = zero_sector();
+    if disk.sectors() == 0 || disk.read(SUPERBLOCK_SECTOR, &mut first).is_err() {
+        return Err(Error::DeviceFailed);
+    }
+    Ok(first)
+}
+
+// Writes the first sector.
+fn put_first(disk: &mut Memory, first: &[u8; SECTOR_SIZE]) -> Result<(), Error> {
+    if disk.sectors() == 0 || disk.write(SUPERBLOCK_SECTOR, first).is_err() {
+        return Err(Error::DeviceFailed);
+    }
+    Ok(())
+}
+
+// Copies what can be read to the disk. `DeviceTooSmall` where that has fewer sectors than so many.
+fn copy_on<O: Device>(
+    alloc: Global,
+    old: &mut O,
+    disk: &mut Memory,
+    sectors: u64,
+) -> Result<Vec<u64>, Error> {
+    if disk.sectors() < sectors {
+        return Err(Error::DeviceTooSmall);
+    }
+    copy_readable(alloc, old, disk, sectors)
+}
+
+// The same; where a geometry is given, the first sector is that of a store which has it.
+fn copy_under<O: Device>(
+    alloc: Global,
+    old: &mut O,
+    disk: &mut Memory,
+    sectors: u64,
+    given: Option<Geometry>,
+) -> Result<Vec<u64>, Error> {
+    let Some(geometry) = given else {
+        return copy_on(alloc, old, disk, sectors);
+    };
+    let first = first_of(disk, geometry)?;
+    let unread = copy_on(alloc, old, disk, sectors)?;
+    put_first(disk, &first)?;
+    Ok(unread)
+}
+
 // What can be salvaged of the current half, or of the other one, on a disk of so many sectors. `DeviceTooSmall` where
 // the store has more.
 fn salvage_on<O: Device>(
     alloc: Global,
     old: &mut O,
     sectors: u64,
+    given: Option<Geometry>,
     is_older: bool,
 ) -> Result<Found, Error> {
     let mut disk = FileDisk::new(alloc, Detached, sectors as usize)?;
-    if disk.sectors() < sectors {
-        return Err(Error::DeviceTooSmall);
-    }
-    let unread = copy_readable(alloc, old, &mut disk, sectors)?;
+    let unread = copy_under(alloc, old, &mut disk, sectors, given)?;
     if is_older {
         turn(&mut disk)?;
     }
@@ -74,12 +120,20 @@ fn salvage_on<O: Device>(
     })
 }
 
-// The same, on a disk that the store fits on. How large that is, its first sector says, which may be damaged: so larger
-// disks are tried, one behind the other.
-fn salvage_half<O: Device>(alloc: Global, old: &mut O, is_older: bool) -> Result<Found, Error> {
+// The same, on a disk that the store fits on. Where its geometry isn't given, its first sector says how large that is,
+// which may be damaged: so larger disks are tried, one behind the other.
+fn salvage_half<O: Device>(
+    alloc: Global,
+    old: &mut O,
+    given: Option<Geometry>,
+    is_older: bool,
+) -> Result<Found, Error> {
+    if let Some(geometry) = given {
+        return salvage_on(alloc, old, geometry.sectors(), given, is_older);
+    }
     let mut sectors = FEW_SECTORS;
     for _ in 0..SIZES {
-        match salvage_on(alloc, old, sectors, is_older) {
+        match salvage_on(alloc, old, sectors, None, is_older) {
             Err(Error::DeviceTooSmall) => sectors = sectors.saturating_mul(4).min(MOST_SECTORS),
             found => return found,
         }
@@ -88,18 +142,27 @@ fn salvage_half<O: Device>(alloc: Global, old: &mut O, is_older: bool) -> Result
 }
 
 // What can be salvaged of the other half. Where nothing can, the current one is refused so.
-fn salvage_older<O: Device>(alloc: Global, old: &mut O, refused: Error) -> Result<Found, Error> {
-    match salvage_half(alloc, old, true) {
+fn salvage_older<O: Device>(
+    alloc: Global,
+    old: &mut O,
+    given: Option<Geometry>,
+    refused: Error,
+) -> Result<Found, Error> {
+    match salvage_half(alloc, old, given, true) {
         Ok(found) => Ok(found),
         Err(_) => Err(refused),
     }
 }
 
 // What can be salvaged of the current half; of the other one, where the image of that is damaged.
-fn salvage_newest<O: Device>(alloc: Global, old: &mut O) -> Result<Found, Error> {
-    match salvage_half(alloc, old, false) {
+fn salvage_newest<O: Device>(
+    alloc: Global,
+    old: &mut O,
+    given: Option<Geometry>,
+) -> Result<Found, Error> {
+    match salvage_half(alloc, old, given, false) {
         Err(Error::Damaged { sector }) if sector != SUPERBLOCK_SECTOR => {
-            salvage_older(alloc, old, Error::Damaged { sector })
+            salvage_older(alloc, old, given, Error::Damaged { sector })
         }
         found => found,
     }
@@ -175,9 +238,10 @@ fn without_index<D: Device + Drop>(alloc: Global, disk: D) -> Result<D, Refused>
 fn salvaged_disk<O: Device, W: Write>(
     alloc: Global,
     old: &mut O,
+    given: Option<Geometry>,
     output: &mut W,
 ) -> Result<Memory, Refused> {
-    let found = salvage_newest(alloc, old)?;
+    let found = salvage_newest(alloc, old, given)?;
     let written = write_lost(&found, output);
     let disk = found.into_disk();
     match written {
@@ -190,15 +254,15 @@ fn salvaged_disk<O: Device, W: Write>(
 }
 
 /// Puts the rows that can still be read of the store on the old disk into a store in a new file, one of blocks where
-/// that is wanted. It has no index. What is lost is printed.
+/// that is wanted. It has no index. What is lost is printed. A geometry that is given is taken for that of the old store.
 pub(crate) fn salvage_to<R: Files<File = File> + AllocGlobal, O: Device, W: Write>(
     rt: &R,
     old: &mut O,
     new: &str,
-    has_blocks: bool,
+    (has_blocks, given): (bool, Option<Geometry>),
     output: &mut W,
 ) -> Result<(), NotMoved> {
-    let mut disk = match salvaged_disk(rt.alloc(), old, output) {
+    let mut disk = match salvaged_disk(rt.alloc(), old, given, output) {
         Ok(disk) => disk,
         Err(refused) => return Err(NotMoved::Old(refused)),
     };

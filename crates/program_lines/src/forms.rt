@@ -206,16 +206,8 @@ fn fault_of_bytes(line: &[u8]) -> Option<&'static str> {
     None
 }
 
-fn without_line_feed(line: &[u8]) -> &[u8] {
-    match line {
-        [front @ .., b'\n'] => front,
-        _ => line,
-    }
-}
-
-/// Tells why the line of this number, which a line feed may end, is none that is served.
+/// Tells why the line of this number is none that is served.
 pub(crate) fn tell_why<E: Write>(alloc: Global, line: &[u8], number: u64, errors: &mut E) {
-    let line = without_line_feed(line);
     if let Some(fault) = fault_of_bytes(line) {
         tell(errors, number, [fault, "", ""], "", "");
         return;

@@ -4,7 +4,7 @@ use std::fs::File;
 use std::rt::Files;
 use store_file::{FileNumber, number_at};
 
-/// The name under which a file was opened, and which file had it before that, where the system has told.
+/// The name under which a file was opened, and which file that is, where the system has told.
 #[derive(Drop)]
 pub(crate) struct OpenName<'a, R> {
     rt: &'a R,
@@ -13,9 +13,8 @@ pub(crate) struct OpenName<'a, R> {
 }
 
 impl<'a, R: Files> OpenName<'a, R> {
-    /// That of the file which has this name now.
-    pub(crate) fn new(rt: &'a R, path: &'a str) -> Self {
-        let number = number_at(rt, path).unwrap_or(None);
+    /// That of the file of this number, which was opened.
+    pub(crate) fn new(rt: &'a R, path: &'a str, number: Option<FileNumber>) -> Self {
         OpenName { rt, path, number }
     }
 

@@ -4,8 +4,7 @@ use crate::serve::Service;
 use crate::tally::Ended;
 use block_host::InFile;
 use program_arguments::Serving;
-use program_commands::Store;
-use program_files::{Refused, close, open_within, refuse_disk};
+use program_files::{Refused, close, open_numbered, open_store};
 use sector_device::Device;
 use std::alloc::Global;
 use std::fs::File;
@@ -53,11 +52,7 @@ fn run_disk<
     output: &mut W,
     errors: &mut E,
 ) -> Result<Ended, Refused> {
-    let store = match Store::open(alloc, disk) {
-        Ok(store) => store,
-        Err((error, disk)) => return Err(refuse_disk(error, disk)),
-    };
-    let mut service = Service::new(store, serving);
+    let mut service = Service::new(open_store(alloc, disk)?, serving);
     let ended = serve_all(alloc, &mut service, name, input, output, errors);
     let closed = close(service.into_device());
     let ended = ended?;
@@ -75,7 +70,7 @@ pub fn run_file<R: Files<File = File> + Clock + AllocGlobal, I: BufRead, W: Writ
     output: &mut W,
     errors: &mut E,
 ) -> Result<Ended, Refused> {
-    let name = OpenName::new(rt, path);
-    let disk = open_within(rt, path, serving.wait)?;
+    let (disk, number) = open_numbered(rt, path, serving.wait)?;
+    let name = OpenName::new(rt, path, number);
     run_disk(rt.alloc(), disk, &name, serving, input, output, errors)
 }

@@ -1,6 +1,7 @@
 //! The commands of the input, served line by line.
 use crate::backup::back_up;
 use crate::forms::{print_help, tell_why};
+use crate::input::read_line;
 use crate::name::OpenName;
 use crate::tally::{Came, Ended, Tally};
 use program_arguments::Serving;
@@ -185,7 +186,12 @@ impl<D: Device + Troubled> Service<D> {
         if self.serving.is_durable && matches!(command, Command::Commit { .. }) {
             return self.serve_durably(alloc, request, output);
         }
-        self.answer(request, output)
+        let outcome = self.answer(request, output)?;
+        // A step that isn't owed is none that was left out.
+        match (command, outcome) {
+            (Command::Step { .. }, Outcome::Skipped) => Ok(Outcome::Other),
+            (_, outcome) => Ok(outcome),
+        }
     }
 
     // Prints the pairs that a scan asks for.
@@ -347,12 +353,11 @@ impl<D: Device + Troubled> Service<D> {
         output: &mut W,
     ) -> io::Result<bool> {
         self.prompt("> ", output)?;
-        line.clear();
-        if input.read_until(b'\n', line)? == 0 {
-            self.prompt("\n", output)?;
-            return Ok(false);
+        if read_line(input, line)? {
+            return Ok(true);
         }
-        Ok(true)
+        self.prompt("\n", output)?;
+        Ok(false)
     }
 
     // Serves a line that was read, and tells why, where it is none of those that are served.
@@ -419,7 +424,7 @@ impl<D: Device + Troubled> Service<D> {
 
     /// Tells how many commands were refused, and which transactions are open still. How the input ended.
     pub(crate) fn sum_up<E: Write>(&self, errors: &mut E) -> Ended {
-        self.tally.tell(errors);
+        self.tally.tell(self.serving.stops_on_refusal, errors);
         self.tell_open(errors);
         self.tally.ended(self.serving.stops_on_refusal)
     }

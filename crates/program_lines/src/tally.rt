@@ -9,6 +9,8 @@ pub(crate) enum Came {
     Served,
     /// Its command was refused.
     Refused,
+    /// Its command was skipped.
+    Skipped,
     /// It is no command.
     NoCommand,
     /// It couldn't be read.
@@ -20,10 +22,10 @@ pub(crate) enum Came {
 impl Came {
     /// What came of a line whose command came to this.
     pub(crate) fn of(outcome: Outcome) -> Came {
-        if outcome.is_refusal() {
-            Came::Refused
-        } else {
-            Came::Served
+        match outcome {
+            Outcome::Skipped => Came::Skipped,
+            outcome if outcome.is_refusal() => Came::Refused,
+            _ => Came::Served,
         }
     }
 }
@@ -35,7 +37,7 @@ pub enum Ended {
     Well,
     /// A line was none.
     WithBadLine,
-    /// A command was refused, and the input was to end with that.
+    /// A command was refused or skipped, and the input was to end with that.
     WithRefusal,
 }
 
@@ -47,6 +49,8 @@ pub(crate) struct Tally {
     /// How many commands were refused, and in which line the first one was.
     refused: u64,
     first: u64,
+    /// The line of the last command that was skipped.
+    skipped: Option<u64>,
 }
 
 impl Tally {
@@ -59,14 +63,27 @@ impl Tally {
                 }
                 self.refused = self.refused.saturating_add(1);
             }
+            Came::Skipped => self.skipped = Some(number),
             Came::NoCommand | Came::Unread => self.has_bad_line = true,
             Came::Served | Came::Quit => {}
         }
     }
 
-    /// Tells how many commands were refused, if any was.
-    pub(crate) fn tell<E: Write>(&self, errors: &mut E) {
-        let Tally { refused, first, .. } = *self;
+    /// Tells how many commands were refused, if any was; and which one was skipped, where the input was to end with
+    /// that.
+    pub(crate) fn tell<E: Write>(&self, stops_on_refusal: bool, errors: &mut E) {
+        let Tally {
+            refused,
+            first,
+            skipped,
+            ..
+        } = *self;
+        if let (true, Some(line)) = (stops_on_refusal, skipped) {
+            let _ = writeln!(
+                errors,
+                "nsf-store: the command in line {line} was skipped, and the input ended with it"
+            );
+        }
         if refused > 0 {
             let _ = writeln!(
                 errors,
@@ -79,7 +96,7 @@ impl Tally {
     pub(crate) fn ended(&self, stops_on_refusal: bool) -> Ended {
         if self.has_bad_line {
             Ended::WithBadLine
-        } else if stops_on_refusal && self.refused > 0 {
+        } else if stops_on_refusal && (self.refused > 0 || self.skipped.is_some()) {
             Ended::WithRefusal
         } else {
             Ended::Well

@@ -16,6 +16,9 @@ const MAP: &str = "--crash-map";
 
 const PICTURE: &str = "--svg";
 
+// With what a picture begins.
+const BEGINNING: &[u8] = b"<svg";
+
 // What a map ends with in place of its status.
 #[derive(Clone, Copy)]
 enum Ending {
@@ -23,6 +26,8 @@ enum Ending {
     Unread,
     Unwritten,
     Undrawn,
+    /// Another file has the picture's name.
+    Other,
 }
 
 // Whether a map is asked for.
@@ -83,6 +88,31 @@ fn printed<F: Files>(
     Ok((table, 0))
 }
 
+// Whether a picture may be written over what has this name: over nothing, an empty file, a picture, and what is no file
+// of bytes.
+fn may_be_drawn<F: Files>(rt: &F, file: &str) -> io::Result<bool> {
+    let found = match fs::metadata(rt, file) {
+        Ok(found) => found,
+        Err(error) if error.kind() == ErrorKind::NotFound => return Ok(true),
+        Err(error) => return Err(error),
+    };
+    if !found.is_file() || found.len() == 0 {
+        return Ok(true);
+    }
+    let mut first = [0; 4];
+    let count = fs::open(rt, file)?.read(&mut first)?;
+    Ok(first[..count].starts_with(BEGINNING))
+}
+
+// Why the picture isn't drawn into this file, if it isn't.
+fn fault_of_file<F: Files>(rt: &F, file: Option<&str>) -> Option<Ending> {
+    match may_be_drawn(rt, file?) {
+        Ok(true) => None,
+        Ok(false) => Some(Ending::Other),
+        Err(error) => Some(ending_of(error, Ending::Undrawn)),
+    }
+}
+
 // Reads the script, and shows its map.
 fn show<R: Read, W: Write, F: Files>(
     rt: &F,
@@ -92,6 +122,9 @@ fn show<R: Read, W: Write, F: Files>(
     input: &mut R,
     output: &mut W,
 ) -> Result<u8, Ending> {
+    if let Some(ending) = fault_of_file(rt, file) {
+        return Err(ending);
+    }
     let mut text = Vec::new(alloc);
     if let Err(error) = input.read_to_end(&mut text) {
         return Err(ending_of(error, Ending::Unread));
@@ -113,6 +146,11 @@ fn tell<W: Write>(ending: Ending, file: Option<&str>, output: &mut W, errors: &m
         Ending::Unread => writeln!(errors, "nsf: cannot read standard input"),
         Ending::Unwritten => writeln!(errors, "nsf: cannot write to standard output"),
         Ending::Undrawn => writeln!(errors, "nsf: cannot write {}", file.unwrap_or("")),
+        Ending::Other => writeln!(
+            errors,
+            "nsf: {} is no picture, and is not written over",
+            file.unwrap_or("")
+        ),
     };
 }
 

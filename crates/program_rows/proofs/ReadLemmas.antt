@@ -9,12 +9,11 @@ use Rattle.csv.specs.declared.error.ErrorKind.{ErrorKind}
 use Rattle.csv.specs.declared.error.ErrorKind.TheVariants as kind
 use Rattle.csv.specs.declared.parser.Config.{Config}
 use Rattle.csv.specs.declared.reader.Reader.{Reader}
-use Rattle.program_quotes.specs.Quotes.{is_cut_off}
-use Rattle.program_rows.specs.Reading.{bytes_of, CameTo, IsNoHeader, IsPlain, IsReadError, ReadsOne}
+use Rattle.program_rows.specs.Reading.{bytes_of, CameTo, IsCutOrLong, IsNoHeader, IsPlain, IsReadError, ReadsOne}
 use Rattle.program_rows.specs.declared.error.TextError.{TextError}
 use Rattle.program_rows.specs.declared.error.TextError.TheVariants as text
 use Rattle.program_rows.specs.declared.reading.Came.{Came}
-use Rattle.program_rows.specs.declared.reading.Came.TheVariants.{Cut}
+use Rattle.program_rows.specs.declared.reading.Came.TheVariants.{Cut, End, Record, TooLong}
 use Rattle.program_rows.specs.declared.reading.ColumnNames.{ColumnNames}
 use Rattle.program_quotes.specs.declared.source.Watched.{Watched}
 
@@ -44,13 +43,14 @@ module _ {R : Type 0} (remaining : R → Option (List ℕ)) where
         };
       }
 
-  -- a text that ended inside a quote
+  -- a text that ended inside a quote, or has too long a record
   pub cut_short : (came : Result Came TextError) (fields : List (List ℕ)) (old new : Reader (Watched R))
-      → OnOk came ((came ≡ Ok Cut) × (is_cut_off (reader_source new) ≡ true)) → (IsPlain old → has_failed new ≡ true)
+      → IfOk came (IsCutOrLong (reader_source new)) → (IsPlain old → has_failed new ≡ true)
       → IfOk came (λ c. IsPlain old → CameTo remaining c fields old new)
-  cut_short (Ok c) fields old new h ended = λ plain.
-      let same : ◌≡◌ {A = Came} c Cut = cc in
-      rw same (record { in_quote = h.1; ended = ended plain })
+  cut_short (Ok Cut) fields old new h ended = λ plain. record { in_quote = h; ended = ended plain }
+  cut_short (Ok TooLong) fields old new h ended = λ plain. record { long = h; ended = ended plain }
+  cut_short (Ok Record) fields old new h ended = absurd h
+  cut_short (Ok End) fields old new h ended = absurd h
   cut_short (Err e) fields old new h ended = tt
 
   -- what couldn't be read

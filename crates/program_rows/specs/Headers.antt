@@ -1,10 +1,8 @@
 -- The columns of rows, as a header names them.
-use Rattle.std.specs.Prelude.{Err, List, Ok, Result, Some, codes, if◌then◌else◌, length, nat_lt}
-use Rattle.std.specs.Prelude.{ℕ, ◌<◌, ◌≡◌, ◌≢◌, ◌⊎◌}
+use Rattle.std.specs.Prelude.{List, Some, codes, ℕ, ◌<◌, ◌≡◌, ◌≢◌}
 use Rattle.csv.specs.Records.{field_at}
-use Rattle.program_rows.specs.Rows.{own_columns}
 use Rattle.program_rows.specs.declared.columns.HeaderError.{HeaderError}
-use Rattle.program_rows.specs.declared.columns.HeaderError.TheVariants.{Missing, NoBody, NoKey, OneColumn, OpenQuote}
+use Rattle.program_rows.specs.declared.columns.HeaderError.TheVariants.{NoBody, NoKey, NoNames}
 use Rattle.program_rows.specs.declared.rows.Columns.{Columns}
 
 -- the first field with this name is in this column
@@ -16,6 +14,10 @@ pub record IsColumn (fields : List (List ℕ)) (name : List ℕ) (column : ℕ) 
 abbrev pub HasNone : List (List ℕ) → List ℕ → Type 0
 HasNone fields name = (m : ℕ) → field_at fields m ≢ Some name
 
+-- some field has this name
+abbrev pub HasColumn : List (List ℕ) → List ℕ → Type 0
+HasColumn fields name = (column : ℕ) × IsColumn fields name column
+
 -- the columns have these names, and each is the first one that does
 pub record AreNamed (fields : List (List ℕ)) (key body : List ℕ) (columns : Columns) : Type 0 where
   pub key_column : IsColumn fields key columns.key
@@ -25,20 +27,11 @@ pub record AreNamed (fields : List (List ℕ)) (key body : List ℕ) (columns : 
 abbrev pub IsLacking : List (List ℕ) → (key body : List ℕ) → HeaderError → Type 0
 IsLacking fields key body NoKey = HasNone fields key
 IsLacking fields key body NoBody = HasNone fields body
-IsLacking fields key body Missing = ⊥
-IsLacking fields key body OneColumn = ⊥
-IsLacking fields key body OpenQuote = ⊥
+IsLacking fields key body other = ⊥
 
--- one of the two names is in no column
-abbrev pub LacksOne : List (List ℕ) → Type 0
-LacksOne fields = (error : HeaderError) × IsLacking fields (codes "key") (codes "body") error
-
--- the first two columns, if there are so many
-abbrev pub first_two : List (List ℕ) → Result Columns HeaderError
-first_two fields = if nat_lt (length fields) 2 then Err OneColumn else Ok own_columns
-
--- The columns `key` and `body`; or the first two, where one of these names is in no column.
-abbrev pub AreDefault : List (List ℕ) → Result Columns HeaderError → Type 0
-AreDefault fields result =
-    ((columns : Columns) × AreNamed fields (codes "key") (codes "body") columns × (result ≡ Ok columns))
-    ⊎ (LacksOne fields × (result ≡ first_two fields))
+-- what is lacking of the columns `key` and `body`: the other one is there, or neither is
+abbrev pub IsLackingDefault : List (List ℕ) → HeaderError → Type 0
+IsLackingDefault fields NoKey = HasNone fields (codes "key") × HasColumn fields (codes "body")
+IsLackingDefault fields NoBody = HasNone fields (codes "body") × HasColumn fields (codes "key")
+IsLackingDefault fields NoNames = HasNone fields (codes "key") × HasNone fields (codes "body")
+IsLackingDefault fields other = ⊥

@@ -1,5 +1,5 @@
 -- What a reader of rows reads of a text.
-use Rattle.std.specs.Prelude.{Bool, Err, List, MatchResult, None, Ok, Option, Result, Some, false, length, option_map}
+use Rattle.std.specs.Prelude.{Bool, Err, List, MatchResult, codes, None, Ok, Option, Result, Some, false, length, option_map}
 use Rattle.std.specs.Prelude.{true, ℕ, ⊤, ◌≡◌, ◌⊎◌}
 use Rattle.csv.specs.Reading.{ReadsNext, Ready, default_config, has_failed, is_flexible, reader_config, reader_source}
 use Rattle.csv.specs.Reading.{reader_state, reader_trim, source_of, strip_bom}
@@ -7,15 +7,16 @@ use Rattle.csv.specs.declared.parser.State.TheVariants.{StartRecord}
 use Rattle.csv.specs.declared.reader.Reader.{Reader}
 use Rattle.csv.specs.declared.reader.Trim.TheVariants as trimmed
 use Rattle.record_values.specs.declared.row.Row.{Row}
-use Rattle.program_rows.specs.Headers.{AreDefault, AreNamed, IsLacking}
-use Rattle.program_quotes.specs.Quotes.{is_cut_off, source_under}
+use Rattle.program_rows.specs.Headers.{AreNamed, IsLacking, IsLackingDefault}
+use Rattle.program_quotes.specs.Quotes.{is_cut_off, is_too_long, source_under}
 use Rattle.program_rows.specs.Rows.{row_under}
 use Rattle.program_rows.specs.declared.columns.HeaderError.{HeaderError}
-use Rattle.program_rows.specs.declared.columns.HeaderError.TheVariants.{Missing, NoBody, NoKey, OneColumn, OpenQuote}
+use Rattle.program_rows.specs.declared.columns.HeaderError.TheVariants.{Missing, NoBody, NoKey, NoNames, OpenQuote}
+use Rattle.program_rows.specs.declared.columns.HeaderError.TheVariants as fault
 use Rattle.program_rows.specs.declared.error.TextError.{TextError}
 use Rattle.program_rows.specs.declared.error.TextError.TheVariants.{Header, Io, NoMemory}
 use Rattle.program_rows.specs.declared.reading.Came.{Came}
-use Rattle.program_rows.specs.declared.reading.Came.TheVariants.{Cut, End, Record}
+use Rattle.program_rows.specs.declared.reading.Came.TheVariants.{Cut, End, Record, TooLong}
 use Rattle.program_rows.specs.declared.reading.ColumnNames.{ColumnNames}
 use Rattle.program_rows.specs.declared.reading.RowReader.{RowReader}
 use Rattle.program_rows.specs.declared.rows.Columns.{Columns}
@@ -31,9 +32,10 @@ pub record IsPlain {S : Type 0} (reader : Reader S) : Type 0 where
   pub flexible : is_flexible reader ≡ true
   pub ready : Ready reader
 
--- the columns of these names, or without names the default ones; or what the header lacks
+-- the columns of these names, or without names those of the default ones; or what the header lacks
 abbrev pub AreChosen : List (List ℕ) → Option ColumnNames → Result Columns HeaderError → Type 0
-AreChosen header None result = AreDefault header result
+AreChosen header None result = MatchResult result
+    (AreNamed header (codes "key") (codes "body")) (IsLackingDefault header)
 AreChosen header (Some names) result = MatchResult result
     (AreNamed header names.key.now names.body.now) (IsLacking header names.key.now names.body.now)
 
@@ -67,6 +69,17 @@ pub record IsCut {R : Type 0} (reader : Reader (Watched R)) : Type 0 where
   pub in_quote : is_cut_off (reader_source reader) ≡ true
   pub ended : has_failed reader ≡ true
 
+-- The text has a record that is too long, and no more is read of it.
+pub record IsLong {R : Type 0} (reader : Reader (Watched R)) : Type 0 where
+  pub long : is_too_long (reader_source reader) ≡ true
+  pub ended : has_failed reader ≡ true
+
+-- which of the two is so of a source
+abbrev pub IsCutOrLong : {R : Type 0} → Watched R → Came → Type 0
+IsCutOrLong source Cut = is_cut_off source ≡ true
+IsCutOrLong source TooLong = is_too_long source ≡ true
+IsCutOrLong source other = ⊥
+
 module _ {R : Type 0} (remaining : R → Option (List ℕ)) where
   -- the bytes that a watched source has left, where they are known
   abbrev pub bytes_of : Watched R → Option (List ℕ)
@@ -84,6 +97,7 @@ module _ {R : Type 0} (remaining : R → Option (List ℕ)) where
   CameTo Record fields old new = ReadsOne true fields old new
   CameTo End fields old new = ReadsOne false fields old new
   CameTo Cut fields old new = IsCut new
+  CameTo TooLong fields old new = IsLong new
 
   -- the reader stands at the start of this source's text
   pub record BeginsAt (source : R) (reader : Reader (Watched R)) : Type 0 where
@@ -101,7 +115,8 @@ module _ {R : Type 0} (remaining : R → Option (List ℕ)) where
   IsNoHeader names (Header OpenQuote) old new = IsCut new
   IsNoHeader names (Header NoKey) old new = LacksColumns names NoKey old new
   IsNoHeader names (Header NoBody) old new = LacksColumns names NoBody old new
-  IsNoHeader names (Header OneColumn) old new = LacksColumns names OneColumn old new
+  IsNoHeader names (Header NoNames) old new = LacksColumns names NoNames old new
+  IsNoHeader names (Header fault.TooLong) old new = IsLong new
   IsNoHeader names (Io error) old new = ⊤
   IsNoHeader names NoMemory old new = ⊤
 
@@ -121,12 +136,13 @@ module _ {R : Type 0} (remaining : R → Option (List ℕ)) where
     pub last : Reader (Watched R)
     pub refused : IsNoHeader names e first last
 
-  -- The next record gives this row, or has none for this reason; or the text ends inside a quote.
+  -- The next record gives this row, or has none for this reason; or the text ends inside a quote, or it is too long.
   abbrev pub Gives : Result Row RowError → RowReader R → RowReader R → Type 0
   Gives found old new =
       ((fields : List (List ℕ)) × ReadsOne true fields (reader_of old) (reader_of new)
       × (found ≡ row_under (columns_of old) (fields_in old) fields))
       ⊎ ((found ≡ Err row.OpenQuote) × IsCut (reader_of new))
+      ⊎ ((found ≡ Err row.RecordTooLong) × IsLong (reader_of new))
 
   -- The same, if there is a further record.
   abbrev pub GivesNext : Option (Result Row RowError) → RowReader R → RowReader R → Type 0

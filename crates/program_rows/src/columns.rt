@@ -1,7 +1,7 @@
 //! The names of columns.
 ghost use Rattle.std.specs.Prelude.{◌≡◌, ◌≢◌, ◌<◌, ◌∷◌, [], ℕ, None, Some, IfErr, IfOk, IfSome, codes};
 ghost use Rattle.csv.specs.Records.{field_at, fields_of};
-ghost use Rattle.program_rows.specs.Headers.{AreDefault, AreNamed, IsLacking, first_two};
+ghost use Rattle.program_rows.specs.Headers.{AreNamed, IsLacking, IsLackingDefault};
 
 use crate::rows::Columns;
 use csv::ByteRecord;
@@ -20,12 +20,15 @@ pub enum HeaderError {
     /// No field of it is the name of the body's column.
     #[error("its header has no column with the body's name")]
     NoBody,
-    /// It has fewer than two fields.
-    #[error("its header has one column, and a row needs two")]
-    OneColumn,
+    /// No columns were named, and no field of it is `key` or `body`.
+    #[error("its first line has no column `key` and none `body`: --key and --body name others, and --no-header takes that line as a row too")]
+    NoNames,
     /// The text ends within it, inside a quote.
     #[error("a quote in its header isn't closed")]
     OpenQuote,
+    /// It is longer than a record may be.
+    #[error("its header is longer than 1048576 bytes")]
+    TooLong,
 }
 
 /// The header of exported rows: `key` and `body`. The error is that memory was refused.
@@ -67,24 +70,17 @@ pub fn columns_named(header: &ByteRecord, key: &[u8], body: &[u8]) -> Result<Col
     Ok(Columns { key, body })
 }
 
-// The first two columns.
-fn first_two(header: &ByteRecord) -> Result<Columns, HeaderError>
-    ensures { result ≡ first_two (fields_of header.now) }
-{
-    if header.len() < 2 {
-        return Err(HeaderError::OneColumn);
-    }
-    Ok(Columns::own())
-}
-
-/// The columns `key` and `body`, the first of each; where one of them is lacking, the first two columns.
+/// The columns `key` and `body`, the first of each.
 ///
-/// `OneColumn` where there are fewer.
+/// `NoNames` where both are lacking, and else `NoKey` or `NoBody`.
 pub fn default_columns(header: &ByteRecord) -> Result<Columns, HeaderError>
-    ensures { AreDefault (fields_of header.now) result }
+    ensures found { IfOk result (AreNamed (fields_of header.now) (codes "key") (codes "body")) }
+    ensures lacking { IfErr result (IsLackingDefault (fields_of header.now)) }
 {
-    match columns_named(header, b"key", b"body") {
-        Ok(columns) => Ok(columns),
-        Err(_) => first_two(header),
+    match (column_named(header, b"key"), column_named(header, b"body")) {
+        (Some(key), Some(body)) => Ok(Columns { key, body }),
+        (None, Some(_)) => Err(HeaderError::NoKey),
+        (Some(_), None) => Err(HeaderError::NoBody),
+        (None, None) => Err(HeaderError::NoNames),
     }
 }

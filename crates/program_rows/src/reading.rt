@@ -1,9 +1,11 @@
 //! Rows are read from a text.
-ghost use Rattle.std.specs.Prelude.{◌≡◌, Ok, None, true, IfErr, IfOk, OnErr, OnOk};
+ghost use Rattle.std.specs.Prelude.{◌≡◌, Ok, None, true, IfErr, IfOk, OnErr};
 ghost use Rattle.csv.specs.Reading.{has_failed, reader_source};
 ghost use Rattle.csv.specs.Records.{fields_of};
-ghost use Rattle.program_quotes.specs.Quotes.{is_cut_off, passed_in};
-ghost use Rattle.program_rows.specs.Reading.{AreChosen, BeginsAt, CameTo, IsNoHeader, IsPlain, IsReadError, ReadsOne};
+ghost use Rattle.program_quotes.specs.Quotes.{passed_in};
+ghost use Rattle.program_rows.specs.Reading.{AreChosen, BeginsAt, CameTo, IsCutOrLong, IsNoHeader, IsPlain};
+ghost use Rattle.program_rows.specs.Reading.{IsReadError, ReadsOne};
+ghost use Rattle.program_rows.specs.Rows.{own_columns};
 
 use crate::columns::{HeaderError, columns_named, default_columns};
 use crate::error::{TextError, error_of_text};
@@ -42,6 +44,11 @@ fn line_feeds_in(record: &ByteRecord) -> u64 {
     count
 }
 
+// How many line feeds are read late of a text whose first record was read up to this line.
+fn late_feeds(to: u64, first: &ByteRecord) -> u64 {
+    u64::from(to <= line_feeds_in(first).saturating_add(1))
+}
+
 // What a read of a record came to.
 #[derive(Clone, Copy)]
 enum Came {
@@ -51,6 +58,8 @@ enum Came {
     End,
     /// The text ends inside a quote.
     Cut,
+    /// The record is too long.
+    TooLong,
 }
 
 // A reader of the records of a text, each as it is.
@@ -65,11 +74,14 @@ fn plain_reader<R: Read>(alloc: Global, source: R) -> Reader<Watched<R>>
 
 // Why no record was read.
 fn refusal_of<R: Read>(reader: &Reader<Watched<R>>, error: csv::Error) -> Result<Came, TextError>
-    ensures cut { OnOk result ((result ≡ Ok Came.Cut) × (is_cut_off (reader_source reader.now) ≡ true)) }
+    ensures cut { IfOk result (IsCutOrLong (reader_source reader.now)) }
     ensures failed { IfErr result IsReadError }
 {
     if reader.get_ref().is_cut_off() {
         return Ok(Came::Cut);
+    }
+    if reader.get_ref().is_too_long() {
+        return Ok(Came::TooLong);
     }
     Err(error_of_text(error))
 }
@@ -111,6 +123,7 @@ fn read_header<R: Read>(
         },
         Ok(Came::End) => Err(TextError::Header(HeaderError::Missing)),
         Ok(Came::Cut) => Err(TextError::Header(HeaderError::OpenQuote)),
+        Ok(Came::TooLong) => Err(TextError::Header(HeaderError::TooLong)),
         Err(error) => Err(error),
     }
 }
@@ -125,8 +138,9 @@ pub struct RowReader<R: Read> {
     fields: usize,
     /// The line in which the last record begins that was read.
     line: u64,
-    /// How many line feeds are read with the record behind the one that they end: a carriage return ends it before.
-    late: u64,
+    /// How many line feeds are read with the record behind the one that they end: a carriage return ends it before. It
+    /// is known once one was read.
+    late: Option<u64>,
 }
 
 impl<R: Read + Drop> RowReader<R> {
@@ -136,8 +150,8 @@ impl<R: Read + Drop> RowReader<R> {
     /// A reader of the rows behind the header of the text (`begins`). Its columns are those of these names, as by
     /// `columns_named`, or without names as by `default_columns`.
     ///
-    /// `Header` where there is no header, or it doesn't name the columns, or ends with the text inside a quote; else
-    /// the text's error, or `NoMemory`.
+    /// `Header` where there is no header, or it doesn't name the columns, ends with the text inside a quote, or is too
+    /// long; else the text's error, or `NoMemory`.
     pub fn new(alloc: Global, source: R, names: Option<ColumnNames<'_>>) -> Result<Self, TextError>
         ensures begins { IfOk result (StandsBehindHeader R.remaining source names.entry) }
         ensures refused { IfErr result (HasNoHeader R.remaining source names.entry) }
@@ -146,19 +160,35 @@ impl<R: Read + Drop> RowReader<R> {
         let mut record = ByteRecord::new(alloc);
         let columns = read_header(&mut reader, &mut record, names)?;
         let fields = record.len();
-        let to = reader.position().line;
-        let is_late = to <= line_feeds_in(&record).saturating_add(1);
+        let late = late_feeds(reader.position().line, &record);
         let mut rows = RowReader {
             reader,
             record,
             columns,
             fields,
             line: 1,
-            late: 0,
+            late: None,
         };
         rows.line = rows.line_from(1);
-        rows.late = u64::from(is_late);
+        rows.late = Some(late);
         Ok(rows)
+    }
+
+    /// A reader of the rows of a text without a header (`begins`): each record has two fields, the key and the body
+    /// (`columns`, `fields`).
+    pub fn without_header(alloc: Global, source: R) -> Self
+        ensures begins { BeginsAt R.remaining source (reader_of result) }
+        ensures columns { columns_of result ≡ own_columns }
+        ensures fields { fields_in result ≡ 2 }
+    {
+        RowReader {
+            reader: plain_reader(alloc, source),
+            record: ByteRecord::new(alloc),
+            columns: Columns::own(),
+            fields: 2,
+            line: 1,
+            late: None,
+        }
     }
 
     // The line in which the record begins that was read from this line on. A line feed ended it, or follows the
@@ -170,11 +200,19 @@ impl<R: Read + Drop> RowReader<R> {
             return from.max(to.saturating_sub(within));
         }
         let first = to.saturating_sub(within).saturating_sub(1);
-        from.max(first).saturating_add(self.late)
+        from.max(first).saturating_add(self.late.unwrap_or(0))
+    }
+
+    // How many line feeds are read late, by the record that was read, if that is the first one.
+    fn late_now(&self) -> u64 {
+        match self.late {
+            Some(late) => late,
+            None => late_feeds(self.reader.position().line, &self.record),
+        }
     }
 
     /// Reads the next record, and answers its row, or why it has none; none behind the last record (`gives`). A record
-    /// that ends with the text inside a quote has no row, and is the last one.
+    /// that ends with the text inside a quote, or is too long, has no row, and is the last one.
     ///
     /// The error is the text's, or `NoMemory`. It ends the text (`fails`): then there is no record any more (`ended`).
     pub fn next_row(&mut self) -> Result<Option<Result<Row, RowError>>, TextError>
@@ -189,12 +227,17 @@ impl<R: Read + Drop> RowReader<R> {
         match read_record(&mut self.reader, &mut self.record) {
             Ok(Came::Record) => {
                 self.line = self.line_from(from);
+                self.late = Some(self.late_now());
                 Ok(Some(row_under(&self.record, self.columns, self.fields)))
             }
             Ok(Came::End) => Ok(None),
             Ok(Came::Cut) => {
                 self.line = self.line_from(from);
                 Ok(Some(Err(RowError::OpenQuote)))
+            }
+            Ok(Came::TooLong) => {
+                self.line = from.saturating_add(self.late.unwrap_or(0));
+                Ok(Some(Err(RowError::RecordTooLong)))
             }
             Err(error) => Err(error),
         }

@@ -40,11 +40,14 @@ pub enum RowError {
     #[error("the body is longer than 69 bytes")]
     BodyTooLong,
     /// It has another number of fields than the header.
-    #[error("the header has {wanted} fields, and it {found}")]
+    #[error("fields: {found}, where {wanted} are wanted")]
     OtherFields { found: usize, wanted: usize },
     /// The text ends within it, inside a quote.
     #[error("a quote isn't closed")]
     OpenQuote,
+    /// It is longer than a record may be, and no further one is read.
+    #[error("the record is longer than 1048576 bytes, and nothing behind it is read")]
+    RecordTooLong,
 }
 
 // The row with these bytes as its key and its body.

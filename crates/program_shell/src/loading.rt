@@ -1,8 +1,7 @@
 //! Rows of a file are loaded into a store.
-use crate::looks::open;
 use block_host::InFile;
 use program_arguments::LoadArguments;
-use program_files::{Refused, close, open_within};
+use program_files::{Refused, close, open_store, open_within};
 use program_lines::Ended;
 use program_rows::{
     ColumnNames, HeaderError, Loader, RowError, RowReader, RowsError, Taken, TextError,
@@ -52,12 +51,31 @@ fn why_not<D: Troubled>(error: RowsError, device: &D) -> NotLoaded {
     }
 }
 
+// The word that stands for the program's own input.
+const INPUT: &str = "-";
+
+// What rows are read from.
+#[derive(Drop)]
+enum Source<'a, I> {
+    Input(&'a mut I),
+    Text(File),
+}
+
+impl<I: Read> Read for Source<'_, I> {
+    fn read(&mut self, buffer: &mut [u8]) -> io::Result<usize> {
+        match self {
+            Source::Input(input) => input.read(buffer),
+            Source::Text(file) => file.read(buffer),
+        }
+    }
+}
+
 // What is shown of how far a load is.
 #[derive(Clone, Copy)]
 struct Progress {
     is_shown: bool,
-    // How many bytes the text has.
-    length: u64,
+    // How many bytes the text has, where that is known.
+    length: Option<u64>,
 }
 
 // How many hundredths of the text so many bytes are.
@@ -69,12 +87,17 @@ fn percent_of(bytes: u64, length: u64) -> u64 {
 }
 
 impl Progress {
-    // Shows how many rows are safe, and how much of the text is read, where that is wanted. What is written next takes
-    // the place of that.
+    // Shows how many rows are safe, and how much of the text is read, if that is known, where that is wanted. What is
+    // written next takes the place of that.
     fn show<E: Write>(self, loaded: u64, bytes: u64, errors: &mut E) {
-        if self.is_shown {
-            let percent = percent_of(bytes, self.length);
+        if !self.is_shown {
+            return;
+        }
+        if let Some(length) = self.length {
+            let percent = percent_of(bytes, length);
             let _ = write!(errors, "rows loaded: {loaded} ({percent} %)\r");
+        } else {
+            let _ = write!(errors, "rows loaded: {loaded}\r");
         }
     }
 }
@@ -164,7 +187,7 @@ fn load_disk<D: Device + Troubled + InFile + Drop, R: Read + Drop, W: Write, E: 
     output: &mut W,
     errors: &mut E,
 ) -> Result<Ended, NotLoaded> {
-    let mut loader = Loader::new(open(alloc, disk)?, rows.line());
+    let mut loader = Loader::new(open_store(alloc, disk)?, rows.line());
     let loaded = load(&mut loader, rows, progress, errors);
     let told = sum_up(&loader, output);
     let ended = ended(&loader);
@@ -188,23 +211,63 @@ fn names_in(asked: &LoadArguments) -> Option<ColumnNames<'_>> {
     Some(ColumnNames { key, body })
 }
 
-// The file of the rows that are to be loaded, and how many bytes it has.
-fn open_text<R: Files<File = File>>(rt: &R, path: &str) -> io::Result<(File, u64)> {
+// What has the rows that are to be loaded, and how many bytes it has, where that is known.
+fn open_text<'a, R: Files<File = File>, I: Read>(
+    rt: &R,
+    path: &str,
+    input: &'a mut I,
+) -> io::Result<(Source<'a, I>, Option<u64>)> {
+    if path == INPUT {
+        return Ok((Source::Input(input), None));
+    }
     let file = fs::open(rt, path)?;
     let length = file.metadata()?.len();
-    Ok((file, length))
+    Ok((Source::Text(file), Some(length)))
+}
+
+// The rows of the text.
+fn rows_of<S: Read + Drop>(
+    alloc: Global,
+    source: S,
+    asked: &LoadArguments,
+) -> Result<RowReader<S>, TextError> {
+    if asked.has_no_header {
+        return Ok(RowReader::without_header(alloc, source));
+    }
+    RowReader::new(alloc, source, names_in(asked))
+}
+
+// Tells which columns are taken.
+fn tell_columns<E: Write>(asked: &LoadArguments, errors: &mut E) {
+    let rows = asked.rows.as_str();
+    if asked.has_no_header {
+        let _ = writeln!(
+            errors,
+            "nsf-store: {rows}: the first column is taken as the key, the second as the body"
+        );
+        return;
+    }
+    let (key, body) = match names_in(asked) {
+        Some(names) => (names.key, names.body),
+        None => ("key", "body"),
+    };
+    let _ = writeln!(
+        errors,
+        "nsf-store: {rows}: the column `{key}` is taken as the key, `{body}` as the body"
+    );
 }
 
 // The rows that are to be loaded, and what is shown of that.
-fn open_rows<R: Files<File = File> + AllocGlobal>(
+fn open_rows<'a, R: Files<File = File> + AllocGlobal, I: Read>(
     rt: &R,
     asked: &LoadArguments,
-) -> Result<(RowReader<File>, Progress), TextError> {
-    let (file, length) = match open_text(rt, asked.rows.as_str()) {
+    input: &'a mut I,
+) -> Result<(RowReader<Source<'a, I>>, Progress), TextError> {
+    let (source, length) = match open_text(rt, asked.rows.as_str(), input) {
         Ok(opened) => opened,
         Err(error) => return Err(TextError::Io(error)),
     };
-    let rows = RowReader::new(rt.alloc(), file, names_in(asked))?;
+    let rows = rows_of(rt.alloc(), source, asked)?;
     let progress = Progress {
         is_shown: asked.shows_progress,
         length,
@@ -217,27 +280,32 @@ fn load_into<R: Files<File = File> + Clock + AllocGlobal, S: Read + Drop, W: Wri
     rt: &R,
     path: &str,
     rows: &mut RowReader<S>,
-    progress: Progress,
+    (asked, progress): (&LoadArguments, Progress),
     output: &mut W,
     errors: &mut E,
 ) -> Result<Ended, NotLoaded> {
     match open_within(rt, path, 0) {
-        Ok(disk) => load_disk(rt.alloc(), disk, rows, progress, output, errors),
+        Ok(disk) => {
+            tell_columns(asked, errors);
+            load_disk(rt.alloc(), disk, rows, progress, output, errors)
+        }
         Err(refused) => Err(NotLoaded::Store(refused)),
     }
 }
 
 /// Loads rows into the store in the file at the path, in transactions of 64 rows, and prints how many are safe and how
-/// many records have no row. The error stream says why, by line; and where no more is loaded, behind which line.
+/// many records have no row. The error stream says which columns are taken; why a record has no row, by line; and where
+/// no more is loaded, behind which line. The rows' path may be `-`, for the input.
 ///
 /// What is wrong with the rows' header is told before what is wrong with the store.
-pub(crate) fn load_file<R: Files<File = File> + Clock + AllocGlobal, W: Write, E: Write>(
+pub(crate) fn load_file<R: Files<File = File> + Clock + AllocGlobal, I: Read, W: Write, E: Write>(
     rt: &R,
     path: &str,
     asked: &LoadArguments,
+    input: &mut I,
     output: &mut W,
     errors: &mut E,
 ) -> Result<Ended, NotLoaded> {
-    let (mut rows, progress) = open_rows(rt, asked)?;
-    load_into(rt, path, &mut rows, progress, output, errors)
+    let (mut rows, progress) = open_rows(rt, asked, input)?;
+    load_into(rt, path, &mut rows, (asked, progress), output, errors)
 }

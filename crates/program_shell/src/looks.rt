@@ -5,7 +5,7 @@ use block_host::{InFile, read_device};
 use nsf_core::Core;
 use program_arguments::{Export, Order};
 use program_commands::Store;
-use program_files::{Refused, Stored, read_disk, refuse_damaged, refuse_disk, write_damaged};
+use program_files::{Refused, Stored, open_store, read_disk, refuse_damaged, write_damaged};
 use program_rows::{
     RowsError, TextError, export_by_key, export_by_place, export_json_by_key, export_json_by_place,
 };
@@ -111,17 +111,6 @@ fn refuse_harm<D: InFile + Troubled, W: Write>(
     }
 }
 
-/// A store on the disk, opened.
-pub(crate) fn open<D: Device + Troubled + Drop>(
-    alloc: Global,
-    disk: D,
-) -> Result<Store<D>, Refused> {
-    match Store::open(alloc, disk) {
-        Ok(store) => Ok(store),
-        Err((error, disk)) => Err(refuse_disk(error, disk)),
-    }
-}
-
 // Shows what is asked for of the store on the disk. What a file is, is behind none of the store's own calls.
 fn look_on<D: Device + Troubled + InFile + Drop, W: Write>(
     alloc: Global,
@@ -131,7 +120,7 @@ fn look_on<D: Device + Troubled + InFile + Drop, W: Write>(
 ) -> Result<(), Refused> {
     refuse_harm(&mut disk, look, output)?;
     let stored = read_disk(alloc, &mut disk)?;
-    let store = open(alloc, disk)?;
+    let store = open_store(alloc, disk)?;
     let looked = look_at(alloc, &stored, &store, look, output);
     drop(store.into_device());
     looked

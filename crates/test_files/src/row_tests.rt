@@ -17,6 +17,10 @@ const REMOVE_ROWS: Deed = Deed::Act("rows", Act::Remove);
 
 const LOAD: &[&str] = &["nsf-store", "load", "l", "rows"];
 
+const UNHEADED: &[&str] = &["nsf-store", "load", "l", "rows", "--no-header"];
+
+const TAKEN: &str = "nsf-store: rows: the column `key` is taken as the key, `body` as the body\n";
+
 const EXPORT: &[&str] = &["nsf-store", "export", "l"];
 
 const BY_KEY: &[&str] = &["nsf-store", "export", "--order", "key", "l"];
@@ -40,7 +44,8 @@ bbbbbbbbbbbbbbbbbbbbbbbbbbbbbbbbbbbbbbbbbbbbbbbbbbbbbbbbbbbbbbbbbbbbbb,,bee
 4,,ant
 ";
 
-const REFUSED: &str = "nsf-store: line 6: the header has 3 fields, and it 1
+const REFUSED: &str = "nsf-store: rows: the column `key` is taken as the key, `body` as the body
+nsf-store: line 6: fields: 1, where 3 are wanted
 nsf-store: line 7: the key is longer than 56 bytes
 nsf-store: line 8: the body is longer than 69 bytes
 ";
@@ -96,7 +101,7 @@ static LOADED_AGAIN: [Deed; 9] = [
         "",
     ),
     Deed::Write("rows", EXPORTED),
-    Deed::Call(LOAD, 0, "loaded 4\nrefused 0\n", ""),
+    Deed::Call(LOAD, 0, "loaded 4\nrefused 0\n", TAKEN),
     Deed::Call(EXPORT, 0, EXPORTED, ""),
     Deed::Call(BY_KEY, 0, IN_ORDER, ""),
     Deed::Call(JSON_BY_KEY, 0, OBJECTS_IN_ORDER, ""),
@@ -138,11 +143,11 @@ static HEADERS: [Deed; 5] = [
         LOAD,
         1,
         "",
-        "nsf-store: rows: its header has one column, and a row needs two\n",
+        "nsf-store: rows: its header has no column with the body's name\n",
     ),
 ];
 
-static COLUMNS: [Deed; 9] = [
+static COLUMNS: [Deed; 12] = [
     Deed::Write("rows", "a,b\r\nant,1\r\nbee\r\n"),
     Deed::Call(
         &["nsf-store", "load", "l", "rows", "--key", "c"],
@@ -158,6 +163,12 @@ static COLUMNS: [Deed; 9] = [
     ),
     Deed::Call(
         LOAD,
+        1,
+        "",
+        "nsf-store: rows: its first line has no column `key` and none `body`: --key and --body name others, and --no-header takes that line as a row too\n",
+    ),
+    Deed::Call(
+        UNHEADED,
         1,
         "",
         "nsf-store: l: No such file or directory (os error 2)\n",
@@ -176,9 +187,22 @@ static COLUMNS: [Deed; 9] = [
         ],
         3,
         "loaded 1\nrefused 1\n",
-        "nsf-store: line 3: the header has 2 fields, and it 1\n",
+        "nsf-store: rows: the column `b` is taken as the key, `a` as the body\nnsf-store: line 3: fields: 1, where 2 are wanted\n",
     ),
-    Deed::Call(EXPORT, 0, "key,body\n1,ant\n", ""),
+    Deed::Call(
+        UNHEADED,
+        3,
+        "loaded 2\nrefused 1\n",
+        "nsf-store: rows: the first column is taken as the key, the second as the body\nnsf-store: line 3: fields: 1, where 2 are wanted\n",
+    ),
+    Deed::Feed(
+        &["nsf-store", "load", "l", "-", "--no-header"],
+        "\u{feff}\"cow\",2\n",
+        0,
+        "loaded 1\nrefused 0\n",
+        "nsf-store: -: the first column is taken as the key, the second as the body\n",
+    ),
+    Deed::Call(EXPORT, 0, "key,body\n1,ant\na,b\nant,1\ncow,2\n", ""),
     REMOVE,
     REMOVE_ROWS,
 ];
@@ -200,7 +224,7 @@ static OPEN_QUOTES: [Deed; 9] = [
         LOAD,
         3,
         "loaded 2\nrefused 1\n",
-        "nsf-store: line 6: a quote isn't closed\n",
+        "nsf-store: rows: the column `key` is taken as the key, `body` as the body\nnsf-store: line 6: a quote isn't closed\n",
     ),
     Deed::Call(EXPORT, 0, "key,body\nant,1\n\"b\"\"\",\"2\n\"\n", ""),
     SOUND,
@@ -222,7 +246,7 @@ static FULL: [Deed; 9] = [
         &["nsf-store", "load", "l", "rows", "--progress"],
         0,
         "loaded 66\nrefused 0\n",
-        "rows loaded: 64 (100 %)\rrows loaded: 66 (100 %)\r\n",
+        "nsf-store: rows: the column `key` is taken as the key, `body` as the body\nrows loaded: 64 (100 %)\rrows loaded: 66 (100 %)\r\n",
     ),
     REMOVE,
     NEW,
@@ -230,7 +254,7 @@ static FULL: [Deed; 9] = [
         LOAD,
         1,
         "loaded 63\nrefused 0\n",
-        "nsf-store: no row behind line 64 is loaded\nnsf-store: l: its table is full\n",
+        "nsf-store: rows: the column `key` is taken as the key, `body` as the body\nnsf-store: no row behind line 64 is loaded\nnsf-store: l: its table is full\n",
     ),
     SOUND,
     REMOVE,
@@ -258,7 +282,7 @@ const BACKUP: &[&str] = &["nsf-store", "backup", "l", "copy"];
 // A backup is of the same kind, so that it is moved to the other one alone.
 static BACKED_UP: [Deed; 8] = [
     Deed::Write("rows", "key,body\nant,1\n"),
-    Deed::Call(LOAD, 0, "loaded 1\nrefused 0\n", ""),
+    Deed::Call(LOAD, 0, "loaded 1\nrefused 0\n", TAKEN),
     Deed::Call(BACKUP, 0, STAT, ""),
     Deed::Call(BACKUP, 1, "", "nsf-store: copy: it is there already\n"),
     Deed::Call(&["nsf-store", "export", "copy"], 0, "key,body\nant,1\n", ""),

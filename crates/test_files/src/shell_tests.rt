@@ -3,6 +3,7 @@ use crate::answers::Look;
 use crate::claims::claim;
 use crate::program::{Deed, ProgramRun, take_all, take_each};
 use crate::steps::Act;
+use std::alloc::{AllocError, Global};
 use std::fs::File;
 use std::process::Abort;
 use std::rt::{Clock, Files};
@@ -245,8 +246,15 @@ static KEYED: [Deed; 3] = [
     REMOVE,
 ];
 
-static STOPPED: [Deed; 7] = [
+static STOPPED: [Deed; 8] = [
     NEW,
+    Deed::Feed(
+        STOPPING,
+        "crash old\nbegin\n",
+        3,
+        "skipped\n",
+        "nsf-store: the command in line 1 was skipped, and the input ended with it\n",
+    ),
     Deed::Feed(
         STOPPING,
         "begin\ninsert 1 =a =\nbegin\ncommit 9\nbegin\n",
@@ -518,12 +526,58 @@ fn before() -> [&'static [Deed]; 11] {
     ]
 }
 
+// Lines with words of more bytes than are kept are answered as if they were whole.
+const LONG: &[(&str, &str, &str)] = &[
+    ("begin\ninsert 1 =", "=:", " =b\n"),
+    ("insert 1 :", "61", " =b\n"),
+    ("insert 1 :", "61", "6 =b\n"),
+    ("#", "\u{e9}", "\n"),
+    ("insert 1 =a =", "bb", "\n"),
+    ("insert 1 =a =b ", "cc", "\n"),
+];
+
+const LONG_ANSWERED: &str = "txn 1
+refused 14 KeyTooLong
+refused 14 KeyTooLong
+refused 22 BadScript 4
+refused 15 BodyTooLong
+refused 22 BadScript 7
+";
+
+// These lines, in each of which the middle part is repeated.
+fn long_lines(alloc: Global) -> Result<Vec<u8>, AllocError> {
+    let mut lines = Vec::new(alloc);
+    for (first, middle, last) in LONG {
+        lines.extend_from_slice(first.as_bytes())?;
+        for _ in 0..5_000 {
+            lines.extend_from_slice(middle.as_bytes())?;
+        }
+        lines.extend_from_slice(last.as_bytes())?;
+    }
+    Ok(lines)
+}
+
+// Whether these lines are answered so.
+fn answers_long<R: Files<File = File> + Clock + AllocGlobal>(rt: &R) -> Result<bool, AllocError> {
+    let lines = long_lines(rt.alloc())?;
+    let (mut printed, mut said) = (Vec::new(rt.alloc()), Vec::new(rt.alloc()));
+    let status = program_shell::run(rt, RUN, &mut lines.as_slice(), &mut printed, &mut said);
+    let is_so = status == 1 && printed.as_slice() == LONG_ANSWERED.as_bytes();
+    drop(lines);
+    drop(printed);
+    drop(said);
+    Ok(is_so)
+}
+
 // Ranges are read in order, the one row with a key is changed, an input may end with a refusal, and it is told why a
 // line is none. An open store is copied. A file in use is waited for.
 fn feed_each<R: Abort + Files<File = File> + Clock + AllocGlobal>(rt: &R) {
     take_each(rt, &before());
     take_beside(rt, &IN_USE);
     take_all(rt, &WAITED);
+    take_all(rt, &[NEW]);
+    claim(rt, answers_long(rt).unwrap_or(false), "long lines");
+    take_all(rt, &[REMOVE]);
 }
 
 #[test]

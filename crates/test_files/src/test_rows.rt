@@ -5,6 +5,8 @@ use program_rows::{
 };
 use records::Row;
 use std::alloc::Global;
+use std::io;
+use std::io::Read;
 use std::mem::forget;
 
 // More than the records of a text.
@@ -145,18 +147,23 @@ static CASES: [Case; 8] = [
     ),
     // lines may end with a carriage return too
     (
-        b"a,b\r\nant,1\r\nx\r\n\r\n\"b\r\nc\",2\r\nbee,3",
+        b"key,body\r\nant,1\r\nx\r\n\r\n\"b\r\nc\",2\r\nbee,3",
         b"key,body\nant,1\n\"b\r\nc\",2\nbee,3\n",
         12357,
         3,
     ),
     // a quote opens only at the start of a field, and a byte order mark is before that; a last record whose quote isn't
     // closed has no row
-    (b"\xef\xbb\xbf\"a\",b\n\n\nx,\"y\n", b"key,body\n", 14, 4),
-    (b"a,b\nx,\"", b"key,body\n", 12, 2),
-    (b"a,b\nx,\"y\"\"", b"key,body\n", 12, 2),
-    (b"a,b\nx,\"y\"\"\"", b"key,body\nx,\"y\"\"\"\n", 12, 0),
-    (b"a,b\n\nx,y\"", b"key,body\nx,\"y\"\"\"\n", 13, 0),
+    (
+        b"\xef\xbb\xbf\"key\",body\n\n\nx,\"y\n",
+        b"key,body\n",
+        14,
+        4,
+    ),
+    (b"key,body\nx,\"", b"key,body\n", 12, 2),
+    (b"key,body\nx,\"y\"\"", b"key,body\n", 12, 2),
+    (b"key,body\nx,\"y\"\"\"", b"key,body\nx,\"y\"\"\"\n", 12, 0),
+    (b"key,body\n\nx,y\"", b"key,body\nx,\"y\"\"\"\n", 13, 0),
 ];
 
 // Whether a text comes to that.
@@ -181,6 +188,29 @@ fn rows_are_loaded_and_exported(rt: HostRuntime) {
     }
 }
 
+// A source of one byte without end.
+#[derive(Drop)]
+struct Endless;
+
+impl Read for Endless {
+    fn read(&mut self, buffer: &mut [u8]) -> io::Result<usize> {
+        buffer.fill(b'a');
+        Ok(buffer.len())
+    }
+}
+
+// Whether a record without end is refused, is the last one, and little of it is read.
+fn ends_early(alloc: Global) -> Result<bool, TextError> {
+    let mut rows = RowReader::without_header(alloc, Endless);
+    let first = rows.next_row()?;
+    let line = rows.line();
+    let second = rows.next_row()?;
+    let read = rows.bytes_read();
+    forget(rows);
+    let is_told = matches!(first, Some(Err(RowError::RecordTooLong)));
+    Ok(is_told && second.is_none() && line == 1 && read < 1 << 21)
+}
+
 // Why the header of a text is refused.
 fn fault_of(alloc: Global, text: &[u8], names: Option<ColumnNames<'_>>) -> Option<HeaderError> {
     match read_all(alloc, text, names) {
@@ -194,9 +224,11 @@ fn fault_of(alloc: Global, text: &[u8], names: Option<ColumnNames<'_>>) -> Optio
 }
 
 // Texts, whether the columns are named, and what their headers lack.
-static LACKING: [(&[u8], bool, Option<HeaderError>); 6] = [
+static LACKING: [(&[u8], bool, Option<HeaderError>); 8] = [
     (b"", false, Some(HeaderError::Missing)),
-    (b"key\nant\n", false, Some(HeaderError::OneColumn)),
+    (b"ant,1\n", false, Some(HeaderError::NoNames)),
+    (b"a,b,key,d\n", false, Some(HeaderError::NoBody)),
+    (b"body,x\n", false, Some(HeaderError::NoKey)),
     (b"b,c\n", true, Some(HeaderError::NoKey)),
     (b"a,b\n", true, Some(HeaderError::NoBody)),
     (b"c,a\n", true, None),
@@ -221,4 +253,6 @@ fn what_a_header_lacks_is_told(rt: HostRuntime) {
         let fault = fault_of(rt.alloc(), *text, names(*are_named));
         claim(&rt, fault == *wanted, "what a header lacks");
     }
+    let is_early = ends_early(rt.alloc()).unwrap_or(false);
+    claim(&rt, is_early, "a record without end");
 }

@@ -1,7 +1,7 @@
 use Rattle.std.proofs.Common.{◌≡◌, inl, inr, Result, Ok, Err, refl}
 use Rattle.program_rows.specs.declared.error.TextError.{TextError}
 use Rattle.program_rows.specs.declared.reading.Came.{Came}
-use Rattle.program_rows.specs.declared.reading.Came.TheVariants.{Cut, End, Record}
+use Rattle.program_rows.specs.declared.reading.Came.TheVariants.{Cut, End, Record, TooLong}
 use Rattle.program_rows.proofs.reading.RowReader.next_row.Goals as goal
 
 refused_not : (e : TextError) (came : Came) → Path (Result Came TextError) (Err e) (Ok came) → ⊥
@@ -9,6 +9,9 @@ refused_not e came is = cc
 
 cut_not_end : (came : Came) → came ≡ Cut → Path (Result Came TextError) (Ok came) (Ok End) → ⊥
 cut_not_end came cut is = cc
+
+long_not_end : (came : Came) → came ≡ TooLong → Path (Result Came TextError) (Ok came) (Ok End) → ⊥
+long_not_end came long is = cc
 
 record_not_end : (came : Came) → came ≡ Record → Path (Result Came TextError) (Ok came) (Ok End) → ⊥
 record_not_end came found is = cc
@@ -29,9 +32,21 @@ returns-in-Ok-Cut g c =
     let done = c.in-Ok-Cut.ensures in
     let came = rw c.in-Ok-Cut.field-0-is at done.came in
     record {
-      gives = λ plain. inr (refl, came plain);
+      gives = λ plain. inr (inl (refl, came plain));
       fails = tt;
       ended = λ was. absurd (cut_not_end _ c.in-Ok-Cut.field-0-is (done.ended was).0);
+      columns = refl;
+      fields = refl;
+    }
+
+pub returns-in-Ok-TooLong : goal.returns-in-Ok-TooLong
+returns-in-Ok-TooLong g c =
+    let done = c.in-Ok-TooLong.ensures in
+    let came = rw c.in-Ok-TooLong.field-0-is at done.came in
+    record {
+      gives = λ plain. inr (inr (refl, came plain));
+      fails = tt;
+      ended = λ was. absurd (long_not_end _ c.in-Ok-TooLong.field-0-is (done.ended was).0);
       columns = refl;
       fields = refl;
     }
