@@ -1,7 +1,7 @@
 // Whether what is found is what was told.
 use crate::told::Told;
 use model::{Life, ROWS_PER_PAGE};
-use nsf_core::Core;
+use nsf_core::{Core, Ticket};
 use records::{Error, Mark, Pair};
 use restart::Engine;
 use sector_device::Device;
@@ -65,7 +65,9 @@ fn is_told<A: Allocator + Copy>(core: &Core<A>, told: &Told) -> bool {
 }
 
 // Makes steps of the builder up to the end of the build.
-fn build<D: Device, A: Allocator + Copy>(engine: &mut Engine<D, A>) -> Result<u64, Error> {
+fn build<D: Device, A: Allocator + Copy>(
+    engine: &mut Engine<D, A>,
+) -> Result<Option<Ticket>, Error> {
     engine.build_to_end()
 }
 

@@ -13,12 +13,11 @@ use Rattle.core_model.specs.Served.{ServesAll, nothing}
 use Rattle.core_laws.specs.Calls.{BeginsWith}
 use Rattle.core_copies.specs.Loaded.{holding}
 use Rattle.core_parts.specs.View.{CoreValue, IsState}
-use Rattle.store_image_model.specs.Run.{end_of}
 use Rattle.sector_device.specs.Disk.{IsSynced}
 use Rattle.sector_device.specs.DevicePast.{DevicePast}
 use Rattle.store_writer.specs.declared.writer.Writer.{Writer}
+use Rattle.store_writer.specs.Parts.{copying_of, has_failed, image_of, log_of, synced_of}
 use Rattle.store_writer.specs.Writer.{IsWriter}
-use Rattle.gate_log.specs.Area.{Log}
 use Rattle.restart.specs.declared.parts.EngineParts.{EngineParts}
 use Rattle.restart.specs.Parted.{ArePartsOf, LeavesParts, LeavesPartsOf}
 use Rattle.core_parts.specs.Opening as held
@@ -75,7 +74,8 @@ unsound_opened past_of before engine is core held_by cannot failures after same 
 module _ {D A : Type 0} (past_of : D → DevicePast) (before : D) (engine : EngineParts D A) (is : IsOpened past_of before engine)
     (emptied : IsEmptied past_of before engine)
     (can : CanOpen (over is.geometry is.given))
-    (core : CoreValue) (w : Writer D A) (parts : ArePartsOf engine core w) (left : LeavesPartsOf past_of engine core w) where
+    (core : CoreValue) (records : List RecordValue) (w : Writer D A) (parts : ArePartsOf engine core records w)
+    (left : LeavesPartsOf past_of engine core records w) where
   abbrev o : Opened
   o = over is.geometry is.given
 
@@ -83,14 +83,14 @@ module _ {D A : Type 0} (past_of : D → DevicePast) (before : D) (engine : Engi
   abbrev past : Past A
   past = opening is.geometry is.given
 
-  begun : LeavesParts past_of past core w
+  begun : LeavesParts past_of past core records w
   begun = left past (is.begins can)
 
   none_made : begun.made ≡ []
   none_made = nil_from_length begun.made (omega (arith, begun.many))
 
   core_is : core ≡ holding is.geometry is.given
-  core_is = parts.core-is ∙ ap (λ (v : CoreValue). record v { outbox = [] }) is.core
+  core_is = parts.core-is ∙ is.core
 
   pub opened_is : opened_of core ≡ o
   opened_is = ap opened_of core_is
@@ -107,8 +107,10 @@ module _ {D A : Type 0} (past_of : D → DevicePast) (before : D) (engine : Engi
   }
 
   writes : IsWriter past_of (run_of past []) is.given.last w
-  writes = subst (λ (n : ℕ). IsWriter past_of (run_of past []) n w) (omega arith)
-      (subst (λ (made : List RecordValue). IsWriter past_of (run_of past made) (end_of (run_of past made)) w) none_made begun.writer)
+  writes =
+      let over_none : IsWriter past_of (run_of past []) begun.handed w =
+      subst (λ (made : List RecordValue). IsWriter past_of (run_of past made) begun.handed w) none_made begun.writer in
+      subst (λ (n : ℕ). IsWriter past_of (run_of past []) n w) (omega (arith, over_none.opened, over_none.reached, over_none.made)) over_none
 
   new_writer : IsNewWriter past_of o w
   new_writer = record {
@@ -117,11 +119,11 @@ module _ {D A : Type 0} (past_of : D → DevicePast) (before : D) (engine : Engi
     pages = ap (λ (g : GeometryValue). g.pages) writes.geometry-is;
     places = ap (λ (g : GeometryValue). g.entries) writes.geometry-is;
     fits = can.fits.room;
-    synced = parts.synced ∙ is.horizon;
-    sound = parts.failed ∙ is.sound;
-    empty = ap (λ (l : Log). l.open_slots) parts.log ∙ emptied.1;
-    idle = parts.image ∙ emptied.2;
-    copying = parts.copying ∙ emptied.3;
+    synced = ap (λ (x : Writer D A). synced_of x) parts.writer-is ∙ is.horizon;
+    sound = ap (λ (x : Writer D A). has_failed x) parts.writer-is ∙ is.sound;
+    empty = ap (λ (x : Writer D A). (log_of x).open_slots) parts.writer-is ∙ emptied.1;
+    idle = ap (λ (x : Writer D A). image_of x) parts.writer-is;
+    copying = ap (λ (x : Writer D A). copying_of x) parts.writer-is;
   }
 
   pub new_over_core : IsNewWriter past_of (opened_of core) w

@@ -45,10 +45,9 @@ pub fn open_store<D: Device, A: Memory>(
     if !engine.core().can_open() {
         return Err((OpenError::Unsound, engine.into_device()));
     }
-    let (core, writer) = match engine.take_apart() {
-        Ok(parts) => parts,
-        Err(engine) => return Err((OpenError::Refused(Error::NoMemory), engine.into_device())),
-    };
+    // No record was made yet, so none is on its way to the writer.
+    let (core, records, writer) = engine.into_parts();
+    drop(records);
     match open(alloc, core, seats) {
         Ok(opening) => Ok(OpenStore {
             alloc,

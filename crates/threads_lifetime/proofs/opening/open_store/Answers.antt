@@ -5,6 +5,7 @@ use Rattle.core_parts.specs.View.{CoreValue}
 use Rattle.restart.specs.Reopening.{IsTurned}
 use Rattle.restart.specs.Store.{over}
 use Rattle.sector_device.specs.Disk.{IsSynced}
+use Rattle.store_writer.specs.Parts.{device_of}
 use Rattle.shared.specs.Openings.{IsJustOpened, IsOpening, opened_of}
 use Rattle.threads_lifetime.specs.Openings.{IsNewWriter, Opens}
 use Rattle.threads_lifetime.proofs.Opened.{just_opened, lacks_memory, new_over_core, opened_is, opens, sound_opened, unsound_opened}
@@ -14,25 +15,25 @@ pub invariant_of-result : goal.invariant_of-result
 invariant_of-result g c =
     let is = c.in-Ok.ensures.opened in
     let emptied = c.in-Ok.ensures.emptied in
-    let parted = c.in-Ok-take_apart.ensures in
+    let parted = c.into_parts-core.ensures in
     let made = c.in-Ok-open.ensures.made in
     let same = c.in-Ok-open.ensures.core in
     let can : CanOpen (over is.geometry is.given) = sound_opened g.D.Device.past_of c.args.device c.in-Ok.engine is _ c.core.ensures
     (c.can_open.ensures.0 c.if-not-can_open.false) in (
       subst (λ (n : ℕ). IsOpening n c.in-Ok-open.opening) (sym made.counted.0) made,
-      subst IsJustOpened (sym same) (just_opened g.D.Device.past_of c.args.device c.in-Ok.engine is emptied can _ _ parted.parts parted.left),
-      subst (λ (v : CoreValue). IsNewWriter g.D.Device.past_of (opened_of v) c.in-Ok-take_apart.parts.1) (sym same)
-          (new_over_core g.D.Device.past_of c.args.device c.in-Ok.engine is emptied can _ _ parted.parts parted.left),
+      subst IsJustOpened (sym same) (just_opened g.D.Device.past_of c.args.device c.in-Ok.engine is emptied can _ _ _ parted.parts parted.left),
+      subst (λ (v : CoreValue). IsNewWriter g.D.Device.past_of (opened_of v) c.into_parts-core.result.2) (sym same)
+          (new_over_core g.D.Device.past_of c.args.device c.in-Ok.engine is emptied can _ _ _ parted.parts parted.left),
     )
 
 pub returns-in-Ok-open : goal.returns-in-Ok-open
 returns-in-Ok-open g c =
     let is = c.in-Ok.ensures.opened in
     let emptied = c.in-Ok.ensures.emptied in
-    let parted = c.in-Ok-take_apart.ensures in
+    let parted = c.into_parts-core.ensures in
     let can : CanOpen (over is.geometry is.given) = sound_opened g.D.Device.past_of c.args.device c.in-Ok.engine is _ c.core.ensures
     (c.can_open.ensures.0 c.if-not-can_open.false) in
-    let over_engine = opened_is g.D.Device.past_of c.args.device c.in-Ok.engine is emptied can _ _ parted.parts parted.left in
+    let over_engine = opened_is g.D.Device.past_of c.args.device c.in-Ok.engine is emptied can _ _ _ parted.parts parted.left in
     let now = ap opened_of c.in-Ok-open.ensures.core ∙ over_engine in
     record {
       opened = record {
@@ -41,9 +42,9 @@ returns-in-Ok-open g c =
         opened = subst (λ (o : Opened). Opens (g.D.Device.past_of c.args.device).disk.content o) (sym now)
             (opens g.D.Device.past_of c.args.device c.in-Ok.engine is);
         sound = subst CanOpen (sym now) can;
-        device = subst (λ (d : g.row.D.Denot). IsTurned g.D.Device.past_of c.args.device d) (sym parted.parts.device) is.device;
-        synced = subst (λ (d : g.row.D.Denot). IsSynced (g.D.Device.past_of d).disk) (sym parted.parts.device) is.synced;
-        quiet = ap g.D.Device.failures parted.parts.device ∙ c.in-Ok.ensures.quiet;
+        device = subst (λ (d : g.row.D.Denot). IsTurned g.D.Device.past_of c.args.device d) (sym (ap (λ w. device_of w) parted.parts.writer-is)) is.device;
+        synced = subst (λ (d : g.row.D.Denot). IsSynced (g.D.Device.past_of d).disk) (sym (ap (λ w. device_of w) parted.parts.writer-is)) is.synced;
+        quiet = ap (λ w. g.D.Device.failures (device_of w)) parted.parts.writer-is ∙ c.in-Ok.ensures.quiet;
       };
       refused = tt;
       many = λ more. absurd (omega (arith, more));
@@ -57,21 +58,6 @@ returns-then-not-can_open g c = record {
   many = λ more. absurd (omega (arith, more));
 }
 
-pub returns-in-Err-take_apart : goal.returns-in-Err-take_apart
-returns-in-Err-take_apart g c =
-    let is = c.in-Ok.ensures.opened in
-    let can : CanOpen (over is.geometry is.given) = sound_opened g.D.Device.past_of c.args.device c.in-Ok.engine is _ c.core.ensures
-    (c.can_open.ensures.0 c.if-not-can_open.false) in
-    record {
-      opened = tt;
-      refused = inr (inl (
-        refl,
-        lacks_memory g.D.Device.past_of c.args.device c.in-Ok.engine is g.D.Device.failures _ can
-            (c.into_device-in-Err-take_apart.ensures.device ∙ c.in-Err-take_apart.ensures.back.keeps.device) c.in-Ok.ensures.quiet,
-      ));
-      many = λ more. absurd (omega (arith, more));
-    }
-
 pub returns-in-Err-open : goal.returns-in-Err-open
 returns-in-Err-open g c =
     let is = c.in-Ok.ensures.opened in
@@ -82,7 +68,7 @@ returns-in-Err-open g c =
       refused = inr (inl (
         c.in-Err-open.ensures.no_memory,
         lacks_memory g.D.Device.past_of c.args.device c.in-Ok.engine is g.D.Device.failures _ can
-            (c.into_device-in-Err-open.ensures.device ∙ c.in-Ok-take_apart.ensures.parts.device) c.in-Ok.ensures.quiet,
+            (c.into_device-in-Err-open.ensures.device ∙ ap (λ w. device_of w) c.into_parts-core.ensures.parts.writer-is) c.in-Ok.ensures.quiet,
       ));
       many = λ more. absurd (omega (arith, more));
     }
