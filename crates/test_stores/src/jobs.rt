@@ -38,8 +38,8 @@ pub(crate) enum Job<'a> {
     Refuse(memory_tests::Wanted),
     /// A moved store goes on.
     GoOn,
-    /// The store is taken apart: the numbers of its last record and of the last that is safe, or a refusal.
-    TakeApart(Result<(u64, u64), Error>),
+    /// The store is taken apart.
+    TakeApart(parts_tests::Parts),
     /// An index is built to its end, by the record of this number, or not.
     BuildToEnd(Result<u64, Error>),
 }

@@ -7,43 +7,41 @@ use crate::store::{OpenStore, StoreMemory};
 use model::Life;
 use records::Error;
 use restart::Event;
+use sector_device::Which;
 use std::alloc::Global;
 use std::process::Abort;
 use test_store::Script;
 
-// What taking the store on a new disk apart gives after these requests, but for the disk.
+/// The numbers of the last record of a core and of the last that is safe, and how many writes and syncs were made.
+pub(crate) type Parts = (u64, u64, u64);
+
+// What taking the store on a new disk apart gives after these requests. Its writer has all records.
 fn parted<M: StoreMemory>(
     rt: &impl Abort,
     memory: M,
     alloc: Global,
     events: &[Event],
-) -> Result<(u64, u64), Error> {
-    let mut store = open(rt, memory, Disk::formatted(alloc, 1, 4)?)?;
+) -> Result<Parts, Error> {
+    let disk = Disk::formatted(alloc, 1, 4)?.failing(Which::WritesAndSyncs, 0);
+    let mut store = open(rt, memory, disk)?;
     let run = store.run(events);
-    let parts = store.into_parts();
+    let (last, synced, missing, disk) = store.into_parts();
+    let made = disk.made();
+    drop(disk);
     drop(run?);
-    match parts {
-        Ok((last, synced, disk)) => {
-            drop(disk);
-            Ok((last, synced))
-        }
-        Err((error, disk)) => {
-            drop(disk);
-            Err(error)
-        }
-    }
+    claim(rt, missing == 0, "records of the writer");
+    Ok((last, synced, made))
 }
 
-/// A store is taken apart after these requests, which gives the numbers of its last record and of the last that is
-/// safe, or is refused.
+/// A store is taken apart after these requests, which gives these numbers.
 pub(crate) fn take_apart<M: StoreMemory>(
     rt: &impl Abort,
     memory: M,
     alloc: Global,
     events: &[Event],
-    wanted: Result<(u64, u64), Error>,
+    wanted: Parts,
 ) -> Result<(), Error> {
-    let parted = parted(rt, memory, alloc, events);
+    let parted = parted(rt, memory, alloc, events)?;
     claim(rt, parted == wanted, "the parts of a store");
     Ok(())
 }
@@ -92,20 +90,23 @@ pub(crate) fn build_to_end<M: StoreMemory>(
     Ok(())
 }
 
-// An image is under way.
-const WITH_IMAGE: &[Script<'_>] = &[(1, "begin\ninsert 1 =a =\nimage\ncommit 1\nimage\n")];
+// So many writes and syncs a restart makes on a new store.
+const RESTART: u64 = 27;
 
-// A transaction is active, and there is no index.
-const WITH_TXN: &[Script<'_>] = &[(1, "begin\n")];
+// A commit is safe, and a transaction is active; there is no index.
+const WITH_TXN: &[Script<'_>] = &[(
+    1,
+    "begin\ninsert 1 =a =\ncommit 1\nflush\nbegin\ninsert 2 =b =\n",
+)];
 
 // An index over one row was begun.
 const WITH_INDEX: &[Script<'_>] = &[(1, "begin\ninsert 1 =a =\ncommit 1\ncreate\n")];
 
-/// A store with an image under way is taken apart, and all is safe then. One with an active transaction isn't. An index
-/// is built to its end, and one that is complete stays so.
+/// A store is taken apart, one with an active transaction too, where nothing more is written than the restart and a
+/// group. An index is built to its end, and one that is complete stays so.
 pub(crate) const TASKS: &[Task] = &[
-    (WITH_IMAGE, Job::TakeApart(Ok((2, 2)))),
-    (WITH_TXN, Job::TakeApart(Err(Error::TxnsActive))),
+    (WITH_TXN, Job::TakeApart((3, 2, RESTART + 10))),
+    (WITH_INDEX, Job::TakeApart((3, 0, RESTART))),
     (WITH_INDEX, Job::BuildToEnd(Ok(5))),
     (WITH_TXN, Job::BuildToEnd(Err(Error::NoIndex))),
     (&[], Job::BuildToEnd(Ok(0))),

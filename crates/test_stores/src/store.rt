@@ -31,23 +31,24 @@ fn replies_to<D: Device, A: Allocator + Copy>(
     engine.run(events)
 }
 
-// The number of the record that ended the build.
+// The number of the record that ended the build, or 0 where the index was complete and there was none.
 fn completed<D: Device, A: Allocator + Copy>(engine: &mut Engine<D, A>) -> Result<u64, Error> {
-    engine.build_to_end()
+    match engine.build_to_end() {
+        Ok(Some(ticket)) => Ok(ticket.record.get()),
+        Ok(None) => Ok(0),
+        Err(error) => Err(error),
+    }
 }
 
-// The number of the core's last record, that of the last that is safe, and the device.
-fn parted<D: Device, A: Allocator + Copy>(
-    engine: Engine<D, A>,
-) -> Result<(u64, u64, D), (Error, D)> {
-    match engine.into_parts() {
-        Ok((core, writer)) => {
-            let last = core.last();
-            drop(core);
-            Ok((last, writer.synced(), writer.into_device()))
-        }
-        Err((error, engine)) => Err((error, engine.into_device())),
-    }
+// The number of the core's last record, that of the last that is safe, how many records the writer has not got, and the
+// device.
+fn parted<D: Device, A: Allocator + Copy>(engine: Engine<D, A>) -> (u64, u64, usize, D) {
+    let (core, outgoing, writer) = engine.into_parts();
+    let last = core.last();
+    let missing = outgoing.len();
+    drop(core);
+    drop(outgoing);
+    (last, writer.synced(), missing, writer.into_device())
 }
 
 fn core_of<D: Device, A: Allocator + Copy>(engine: &Engine<D, A>) -> &Core<A> {
@@ -91,8 +92,9 @@ pub trait OpenStore {
     /// Builds its index to the end: the number of the record that ended it.
     fn build_to_end(&mut self) -> Result<u64, Error>;
 
-    /// Takes it apart: the number of its core's last record, up to which number all is safe, and the disk.
-    fn into_parts(self) -> Result<(u64, u64, Disk), (Error, Disk)>;
+    /// Takes it apart: the number of its core's last record, up to which number all is safe, how many records its writer
+    /// has not got, and the disk.
+    fn into_parts(self) -> (u64, u64, usize, Disk);
 
     /// Gives up all but the disk.
     fn close(self) -> Disk;
@@ -145,12 +147,10 @@ impl<A: Allocator + Copy> OpenStore for Store<A> {
         completed(&mut self.engine)
     }
 
-    fn into_parts(self) -> Result<(u64, u64, Disk), (Error, Disk)> {
+    fn into_parts(self) -> (u64, u64, usize, Disk) {
         let Store { engine, alloc } = self;
-        match parted(engine) {
-            Ok((last, synced, device)) => Ok((last, synced, Disk { device, alloc })),
-            Err((error, device)) => Err((error, Disk { device, alloc })),
-        }
+        let (last, synced, missing, device) = parted(engine);
+        (last, synced, missing, Disk { device, alloc })
     }
 
     fn close(self) -> Disk {
