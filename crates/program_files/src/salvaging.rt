@@ -254,7 +254,8 @@ fn salvaged_disk<O: Device, W: Write>(
 }
 
 /// Puts the rows that can still be read of the store on the old disk into a store in a new file, one of blocks where
-/// that is wanted. It has no index. What is lost is printed. A geometry that is given is taken for that of the old store.
+/// that is wanted. It has no index. What is lost is printed. A geometry that is given is taken for that of the old
+/// store.
 pub(crate) fn salvage_to<R: Files<File = File> + AllocGlobal, O: Device, W: Write>(
     rt: &R,
     old: &mut O,

@@ -2,8 +2,8 @@
 use std::io;
 use std::io::{BufRead, ErrorKind};
 
-// The most bytes that are kept of a word, but for two; longer than the longest path that the system takes. A key or body
-// of so many is too long, however it is written.
+// The most bytes that are kept of a word, but for two; longer than the longest path that the system takes. A key or
+// body of so many is too long, however it is written.
 const WORD_MAX: usize = 8_192;
 
 // The most bytes that are kept of a line: more than a command has whose words have so many. What has more is none.

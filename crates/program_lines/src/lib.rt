@@ -2,8 +2,8 @@
 //!
 //! Proved: that it is safe, and meets what the calls below ask.
 //!
-//! Only tested (`test_files`): what is answered to a line, what the error stream tells, and how an input ends; and that a
-//! line is kept with fewer than 65,536 bytes, however long it is, and answered as if it were whole. A command has the
+//! Only tested (`test_files`): what is answered to a line, what the error stream tells, and how an input ends; and that
+//! a line is kept with fewer than 65,536 bytes, however long it is, and answered as if it were whole. A command has the
 //! promises of `program_commands`.
 #![tactic(auto)]
 

@@ -1,5 +1,6 @@
 -- Where in a text of comma-separated fields a byte stands, and whether the text ends inside a quote.
-use Rattle.std.specs.Prelude.{Bool, false, fold, if◌then◌else◌, List, min, nat_lt, not, true, ℕ, ◌&&◌, ◌+◌, ◌-◌, ◌==◌, ◌^◌, ◌||◌}
+use Rattle.std.specs.Prelude.{Bool, false, fold, if◌then◌else◌, List, min, nat_lt, not, true, ℕ}
+use Rattle.std.specs.Prelude.{◌&&◌, ◌+◌, ◌-◌, ◌==◌, ◌^◌, ◌||◌}
 use Rattle.program_quotes.specs.declared.source.TheConstants.{RECORD_MAX}
 use Rattle.program_quotes.specs.declared.source.Place.{Place}
 use Rattle.program_quotes.specs.declared.source.Place.TheVariants as at

@@ -1,5 +1,6 @@
 -- What a reader of rows reads of a text.
-use Rattle.std.specs.Prelude.{Bool, Err, List, MatchResult, codes, None, Ok, Option, Result, Some, false, length, option_map}
+use Rattle.std.specs.Prelude.{Bool, Err, List, MatchResult, codes, None, Ok, Option}
+use Rattle.std.specs.Prelude.{Result, Some, false, length, option_map}
 use Rattle.std.specs.Prelude.{true, ℕ, ⊤, ◌≡◌, ◌⊎◌}
 use Rattle.csv.specs.Reading.{ReadsNext, Ready, default_config, has_failed, is_flexible, reader_config, reader_source}
 use Rattle.csv.specs.Reading.{reader_state, reader_trim, source_of, strip_bom}

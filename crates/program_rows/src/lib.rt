@@ -3,16 +3,16 @@
 //!
 //! Proved: which row a record gives, or why none (`row_of`, and `row_under` beneath a header of so many fields); the
 //! record of a row (`record_of`), and the lines of both (`line_of`, `row_line`). So are the columns of names, the first
-//! of each (`column_named`, `columns_named`), or `key` and `body` (`default_columns`). An export prints just the rows, in
-//! the order of their places (`export_by_place`) or of the visible pairs (`export_by_key`). So does one as objects of
-//! JSON, a line each (`export_json_by_place`, `export_json_by_key`), which have the bytes of key and body as text where
-//! they are UTF-8, and else as digits under another name (`json_line`).
+//! of each (`column_named`, `columns_named`), or `key` and `body` (`default_columns`). An export prints just the rows,
+//! in the order of their places (`export_by_place`) or of the visible pairs (`export_by_key`). So does one as objects
+//! of JSON, a line each (`export_json_by_place`, `export_json_by_key`), which have the bytes of key and body as text
+//! where they are UTF-8, and else as digits under another name (`json_line`).
 //!
-//! A `RowReader` begins behind the header of its text, the first record (`begins`), or at the start of a text without one
-//! (`without_header`), and gives what the records behind that give, one behind the other (`gives`); so where the bytes of
-//! the source are known, those of the text are the ones that it reads. A `Loader` inserts just the row of the record that it takes, and counts a record without one
-//! (`taken`). It counts rows whose transaction is committed and safe (`commit`), and tells what the store refused
-//! (`refused`).
+//! A `RowReader` begins behind the header of its text, the first record (`begins`), or at the start of a text without
+//! one (`without_header`), and gives what the records behind that give, one behind the other (`gives`); so where the
+//! bytes of the source are known, those of the text are the ones that it reads. A `Loader` inserts just the row of the
+//! record that it takes, and counts a record without one (`taken`). It counts rows whose transaction is committed and
+//! safe (`commit`), and tells what the store refused (`refused`).
 //!
 //! Laws: the record of a row gives the row, and a record of two fields is that of the row which it gives (`each_row`).
 //! What a writer writes of a row's record, a reader reads (`each_line`). A reader of JSON reads a row's object, and no

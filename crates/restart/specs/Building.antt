@@ -1,6 +1,7 @@
 -- A build that goes on to its end.
 use Rattle.std.specs.List.{All}
-use Rattle.std.specs.Prelude.{Err, IfSome, List, None, Ok, Option, Result, Some, ℕ, ◌+◌, [], ◌++◌, ◌↔◌, ◌∷◌, ◌≡◌, ◌≢◌, ◌⊎◌}
+use Rattle.std.specs.Prelude.{Err, IfSome, List, None, Ok, Option, Result, Some, ℕ, ◌+◌, []}
+use Rattle.std.specs.Prelude.{◌++◌, ◌↔◌, ◌∷◌, ◌≡◌, ◌≢◌, ◌⊎◌}
 use Rattle.std.specs.FinMap.{get}
 use Rattle.marked_index.specs.Index.{IsFull}
 use Rattle.records.specs.RecordValue.{RecordValue}

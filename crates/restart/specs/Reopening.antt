@@ -76,8 +76,8 @@ pub record IsNotOpened {D : Type 0} (past_of : D → DevicePast) (failures : D
 
 -- The engine holds a prefix of the run's history, which has every item up to the floor and no record past the last that
 -- the run made, and no transaction; just what the run's records up to there make. And what it holds is something that a
--- core may begin with: as far as the index is built, it shows the pair of each row, and no other. A run begins over it; and the core has come to where it is, so
--- that a build that goes on to its end leaves the index whole.
+-- core may begin with: as far as the index is built, it shows the pair of each row, and no other. A run begins over it;
+-- and the core has come to where it is, so that a build that goes on to its end leaves the index whole.
 pub record Recovers {D M : Type 0} (past_of : D → DevicePast) (past : Past M) (floor : ℕ)
     (engine : EngineParts D M) : Type 0 where
   pub given : Given

@@ -187,8 +187,8 @@ where
 /// [`publish`] gives it its own. So a crash meanwhile leaves no half of a store under it. Where it is refused, no file
 /// is left, if that can be removed.
 ///
-/// A file of the name `PATH.new` that was left by a making that was cut off gives way: nobody has it open, and it begins
-/// with a store, or with zeros as far as it has a first sector. (That is only tested.)
+/// A file of the name `PATH.new` that was left by a making that was cut off gives way: nobody has it open, and it
+/// begins with a store, or with zeros as far as it has a first sector. (That is only tested.)
 ///
 /// `Exists` where something has the name `PATH`. `DraftInUse` where another process makes it now, and `DraftExists`
 /// where something else has the name `PATH.new`. `BadLength` for no sector or more than 2^23.

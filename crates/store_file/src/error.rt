@@ -19,8 +19,8 @@ pub enum OpenError {
     DraftExists,
     /// Another process, or another disk of this one, has `PATH.new` open, as one that makes it now.
     DraftInUse,
-    /// It is made, and has its name, but the system refused a call behind that: the name may not be safe, or that of its
-    /// draft is there too, which the next opening takes away.
+    /// It is made, and has its name, but the system refused a call behind that: the name may not be safe, or that of
+    /// its draft is there too, which the next opening takes away.
     Made(Trouble),
     /// The file system gives a file no second name, as a new one needs to get its own.
     NoSecondName,

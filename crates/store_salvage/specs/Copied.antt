@@ -24,8 +24,8 @@ abbrev pub IsUnread : (sectors : ℕ) → (from to : CrashState) → (failed : �
 IsUnread sectors from to failed n = (n < sectors) × (sector to n ≡ unread_sector)
     × ((length from ≤ n) ⊎ Rises (failed n) (failed (n + 1)))
 
--- The numbers rise, and each is of such a sector. The sectors had their turns in order, one behind the other: `failed n`
--- calls of the one disk had failed before that of sector n. So no two sectors are told for one failure.
+-- The numbers rise, and each is of such a sector. The sectors had their turns in order, one behind the other: `failed
+-- n` calls of the one disk had failed before that of sector n. So no two sectors are told for one failure.
 pub record AreUnread (unread : List ℕ) (sectors : ℕ) (from to : CrashState) (before now : ℕ) : Type 0 where
   pub rising : AllPairs (λ m n. m < n) unread
   pub failed : ℕ → ℕ

@@ -59,8 +59,8 @@ fn copy_sector<O: Device, N: Device>(from: &mut O, to: &mut N, n: u64) -> Result
 
 /// Copies the first sectors of a disk to another one, and answers the numbers of those that can't be read, in whose
 /// place the other one has bytes that say nothing (`copied`). The numbers rise, and each is of a sector that the disk
-/// doesn't have, or in whose own turn a call of the disk failed (`unread`). It is only read (`kept`), and nothing of the
-/// other one is changed behind them (`rest`).
+/// doesn't have, or in whose own turn a call of the disk failed (`unread`). It is only read (`kept`), and nothing of
+/// the other one is changed behind them (`rest`).
 ///
 /// `DeviceFailed` where the other disk failed (`refused`), or `NoMemory`.
 pub fn copy_readable<O: Device, N: Device, A: Allocator>(

@@ -92,8 +92,8 @@ pub trait OpenStore {
     /// Builds its index to the end: the number of the record that ended it.
     fn build_to_end(&mut self) -> Result<u64, Error>;
 
-    /// Takes it apart: the number of its core's last record, up to which number all is safe, how many records its writer
-    /// has not got, and the disk.
+    /// Takes it apart: the number of its core's last record, up to which number all is safe, how many records its
+    /// writer has not got, and the disk.
     fn into_parts(self) -> (u64, u64, usize, Disk);
 
     /// Gives up all but the disk.

@@ -1,11 +1,11 @@
 //! Tests of a store under many threads, of one seat to which memory is refused, and of the program `nsf-threads`.
 //!
 //! Writers, flusher, builder and cleaner share a store and are held at gates, where the flusher alone writes, and where
-//! the seats lead; and so over devices that fail. What they leave is compared with their commits, and with what is found
-//! after a crash. Those of the program meet devices that fail too. Each loop is called by itself, and an index is
+//! the seats lead; and so over devices that fail. What they leave is compared with their commits, and with what is
+//! found after a crash. Those of the program meet devices that fail too. Each loop is called by itself, and an index is
 //! dropped while it is built. To a seat whose commits are kept each allocation is refused in turn, call by call, and in
-//! one hold of the lock. After a record that the queue refused it looks up; and calls that make no step of the core take
-//! no memory. Proved of them is safety.
+//! one hold of the lock. After a record that the queue refused it looks up; and calls that make no step of the core
+//! take no memory. Proved of them is safety.
 //!
 //! The calls of a seat are a trait that promises nothing (`calls`), which what plays is generic over; each heavy call
 //! is made once (`at_seat`). A seat stays beside its number, which is looked at again in the end (`Numbered`). What a

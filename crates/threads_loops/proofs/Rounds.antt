@@ -1,5 +1,6 @@
 -- When an image is copied, after each call of the flusher's part.
-use Rattle.std.proofs.Common.{◌≡◌, ◌≢◌, ◌⊎◌, ℕ, ◌+◌, ap, arith, false, true, Option, None, Some, IfSome, Result, Ok, Err, IfOk, IfErr, OnOk, inl, inr, sym, subst}
+use Rattle.std.proofs.Common.{◌≡◌, ◌≢◌, ◌⊎◌, ℕ, ◌+◌, ap, arith, false, true, Option, None, Some, IfSome, Result, Ok}
+use Rattle.std.proofs.Common.{Err, IfOk, IfErr, OnOk, inl, inr, sym, subst}
 use Rattle.std.proofs.Common.{◌∙◌, ⊎_elim}
 use Rattle.std.proofs.lemmas.Bool.{false≢true}
 use Rattle.record_values.specs.declared.error.Error.{Error}

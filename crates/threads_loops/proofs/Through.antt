@@ -97,7 +97,8 @@ module _ {D A : Type 0} {marks : ℕ → ℕ → Type 0} (past_of : D → Device
       }
 
       pub by_step : (number : ℕ) (piece : Piece A) (result : Result StepReply Error) → IsChunk (run_of o old) old.writer number piece
-          → IsNextPiece piece (copying_of old.writer) → (has_failed old.writer ≡ false → IsHalfFull old.writer) → IfOk result (λ reply. IsStepReply number piece reply old.writer new.writer)
+          → IsNextPiece piece (copying_of old.writer) → (has_failed old.writer ≡ false → IsHalfFull old.writer)
+          → IfOk result (λ reply. IsStepReply number piece reply old.writer new.writer)
           → OnOk result ((has_failed old.writer ≡ false) × (has_failed new.writer ≡ false)) → IfErr result (λ e. HasFailed failures e old.writer new.writer)
           → synced_of new.writer ≡ synced_of old.writer → OnErr result (IsAsBefore old.writer new.writer)
           → OnOk result (failures (device_of new.writer) ≡ failures (device_of old.writer)) → Calls past_of marks failures o old new

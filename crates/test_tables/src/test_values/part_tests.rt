@@ -141,8 +141,8 @@ fn are_rows_of_each_length() -> Result<bool, Error> {
     Ok(is_key && is_body)
 }
 
-/// Whether an entry, a row, none, a transaction's head, one of its changes, and the header of an image are spelled so; and
-/// rows of each length.
+/// Whether an entry, a row, none, a transaction's head, one of its changes, and the header of an image are spelled so;
+/// and rows of each length.
 pub(crate) fn are_spelled() -> Result<bool, Error> {
     let (pair, row) = (pair()?, row()?);
     let are_rows = is_slot(&Some(row), &SLOT) && is_slot(&None, &[]) && is_item_of(row);

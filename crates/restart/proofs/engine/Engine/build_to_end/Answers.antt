@@ -13,7 +13,8 @@ use Rattle.core_parts.specs.declared.reply.BuildReply.TheVariants.{Done}
 use Rattle.restart.specs.Parts.{core_of, writer_of}
 use Rattle.restart.specs.Store.{CanRun}
 use Rattle.restart.proofs.BuiltOn.{can_run_built}
-use Rattle.restart.proofs.Ended.{all_built, comes_to, complete_ends, complete_whole, done_ends, done_whole, is_done, none_built, none_made, refused_ends, rows_stay}
+use Rattle.restart.proofs.Ended.{all_built, comes_to, complete_ends, complete_whole, done_ends, done_whole, is_done}
+use Rattle.restart.proofs.Ended.{none_built, none_made, refused_ends, rows_stay}
 use Rattle.restart.proofs.Ended.{stepped}
 use Rattle.restart.proofs.Standing.{Laws}
 use Rattle.restart.proofs.WhyRefused.{IsWhy, refused_full, refused_none, refused_out, refused_why}
