@@ -19,7 +19,7 @@ use Rattle.program_commands.specs.declared.request.Request.{Request}
 use Rattle.program_commands.specs.declared.request.Request.TheVariants as request
 use Rattle.program_commands.specs.declared.guarded.GuardedStore.{GuardedStore}
 use Rattle.program_commands.specs.declared.outcome.Outcome.{Outcome}
-use Rattle.program_commands.specs.declared.outcome.Outcome.TheVariants.{Other}
+use Rattle.program_commands.specs.declared.outcome.Outcome.TheVariants.{Other, Skipped}
 
 -- the line of this answer was printed
 abbrev pub Prints : {W : Type 0} → (W → Option (List ℕ)) → Answer → W → W → Type 0
@@ -66,7 +66,7 @@ module _ {D W : Type 0} (past_of : D → DevicePast) (failures : D → ℕ) (con
       × Prints contents (answer_of (horizon_of (store_of new)) reply) before after
       × (outcome ≡ outcome_of (answer_of (horizon_of (store_of new)) reply))
   Answers (request.Crash _) outcome old new before after =
-      (new ≡ old) × Prints contents answer.Skipped before after × (outcome ≡ Other)
+      (new ≡ old) × Prints contents answer.Skipped before after × (outcome ≡ Skipped)
   Answers request.Dump outcome old new before after =
       (new ≡ old) × Appends (contents before) (contents after) (dump_text (store_of old)) × (outcome ≡ Other)
 
