@@ -142,14 +142,15 @@ static SALVAGED: [Deed; 16] = [
 
 // A file that ends within a sector gives what its whole sectors do, and is no store else. One that is longer than its
 // store is salvaged too, and so is one whose first sector says nothing, where its size is given.
-static SIZED: [Deed; 11] = [
-    Deed::Lay("harmed", (SECTORS + 1, HARMED)),
+static SIZED: [Deed; 12] = [
+    Deed::Lay("harmed", (SECTORS + 1, &[SUPERBLOCK])),
     Deed::Call(
         &["nsf-store", "check", "harmed"],
         1,
         "",
         "nsf-store: harmed: it has 2199 sectors, and the store that it begins with 2198: a number in its first sector may be damaged. `nsf-store salvage` takes the right ones by --pages, --entries and --slots\n",
     ),
+    Deed::Lay("harmed", (SECTORS + 1, HARMED)),
     Deed::Call(SALVAGE, 0, LOST, ""),
     REMOVE_NEW,
     Deed::Lay("harmed", (SECTORS, NAMELESS)),
