@@ -46,12 +46,9 @@ fn holds<D: Device>(device: &mut D, edits: &[Edit<'_>], first: u64, end: u64) ->
 // Makes each sector of a device hold what the same one of another does, and syncs it.
 fn make_same<D: Device, E: Device>(from: &mut D, to: &mut E) -> Result<(), Error> {
     let mut sector = [0; SECTOR_SIZE];
-    let mut other = [0; SECTOR_SIZE];
     for n in 0..from.sectors() {
-        if !is_read(from, n, &mut sector) || !is_read(to, n, &mut other) {
-            return Err(Error::DeviceFailed);
-        }
-        if sector != other && !is_written(to, n, &sector) {
+        let copied = is_read(from, n, &mut sector) && is_written(to, n, &sector);
+        if !copied {
             return Err(Error::DeviceFailed);
         }
     }
