@@ -103,4 +103,7 @@ module _ {D M : Type 0} (past_of : D → DevicePast) (failures : D → ℕ) (g :
     made = made;
     rows = left.beginning.table ∙ sym (ap (λ (l : List Item). table_after given.table (up_to left.given.last l)) told);
     life = left.beginning.life ∙ sym (ap (λ (l : List Item). life_after given.life (up_to left.given.last l)) told);
+    records =
+        let is = left.records in
+        record { made = is.made; state = is.state; standing = is.standing; served = is.served; same = is.same };
   }

@@ -29,8 +29,9 @@ use Rattle.threads_sessions.specs.Values.{CommitValue}
 use Rattle.nsf.specs.Closing.{GivesAll, GivesSome, IsCoreOf, table_with, up_to}
 use Rattle.nsf.specs.Gathered.{AreCommitsOf}
 use Rattle.nsf.specs.Openings.{IsNotShared, Opens}
+use Rattle.nsf.specs.Serving.{IsNotServed}
 use Rattle.nsf.specs.OpenErrors.{OpenError}
-use Rattle.nsf.specs.OpenErrors.TheVariants.{Refused, Unsound}
+use Rattle.nsf.specs.OpenErrors.TheVariants.{NoThread, Refused, Unsound}
 use Rattle.nsf.specs.Serving.{HadEnded, HoldsAll, WhyUnwritten, LeavesWork, TellsBuild}
 use Rattle.restart.specs.declared.parts.EngineParts.{EngineParts}
 use Rattle.restart.specs.Building.{BuildsWhole, HasCome}
@@ -478,7 +479,7 @@ module _ {D M C : Type 0} (past_of : D → DevicePast) (failures : D → ℕ) (w
   pub not_lived : (shared : Option (SharedAnswer C)) (e : OpenError) (error : Error) (now : ℕ) → shared ≡ None → e ≡ Refused error
       → IsNotReopened failures g began days answers error now → IsNotLivedBeside works failures g began days answers day shared e now
   not_lived shared e error now none is why =
-      subst (λ (s : Option (SharedAnswer C)). IsNotLivedBeside works failures g began days answers day s e now) (sym none) (error, is, why)
+      subst (λ (s : Option (SharedAnswer C)). IsNotLivedBeside works failures g began days answers day s e now) (sym none) (inl (error, is, why))
 
   module _ (before : D) (keeps : KeepsDays past_of failures g began days answers before) (images : Images) where
     abbrev gives : GivesDays failures g began days answers (failures before) (past_of before).disk.content
@@ -487,15 +488,21 @@ module _ {D M C : Type 0} (past_of : D → DevicePast) (failures : D → ℕ) (w
     sound : (x : Opened) → Opens (past_of before).disk.content x → CanOpen x
     sound x opens = subst CanOpen (sym (opens_so past_of failures g began days answers before keeps images x opens)) gives.opens
 
-    pub not_shared : (count : ℕ) (after : D) (e : OpenError) → count ≤ 16 → IsNotShared past_of failures before count after e
+    not_shared : (count : ℕ) (after : D) (e : OpenError) → count ≤ 16 → IsNotShared past_of failures before count after e
         → IsNotLivedBeside works failures g began days answers day None e (failures after)
     not_shared count after (Refused e) few not =
         let why : IsUnopened e (failures before) (failures after) = ⊎_elim
         (λ not-opened. why_unopened past_of failures g began days answers before gives images after e not-opened)
         (λ rest. ⊎_elim (λ lacks. inl (lacks.0, lacks.1.quiet)) (λ many. absurd (omega (arith, few, many.1))) rest)
         not in
-        (e, refl, not_reopened past_of failures g began days answers before gives images e (failures after) why)
+        inl (e, refl, not_reopened past_of failures g began days answers before gives images e (failures after) why)
     not_shared count after Unsound few not = absurd (not.unsound (sound not.opened not.opens))
+    not_shared count after NoThread few not = absurd not
+
+    pub not_served : (count : ℕ) (after : D) (e : OpenError) → count ≤ 16 → IsNotServed past_of failures before count after e
+        → IsNotLivedBeside works failures g began days answers day None e (failures after)
+    not_served count after e few (inl not) = not_shared count after e few not
+    not_served count after e few (inr none) = inr (none.0, (resting gives.given (failures before), gives.days-are, none.1.quiet))
 
   -- no other refusal comes behind the formatting
   refused_same : (a b : Error) → Refused a ≡ Refused b → a ≡ b
@@ -503,7 +510,8 @@ module _ {D M C : Type 0} (past_of : D → DevicePast) (failures : D → ℕ) (w
 
   pub never : (x : Error) → ((e : Error) (before now : ℕ) → IsUnopened e before now → e ≡ x → ⊥) → (shared : Option (SharedAnswer C)) (e : OpenError) (now : ℕ)
       → IsNotLivedBeside works failures g began days answers day shared e now → e ≡ Refused x → ⊥
-  never x other None e now is same = other is.0 is.2.store.failed now is.2.why (refused_same is.0 x (sym is.1 ∙ same))
+  never x other None e now (inl is) same = other is.0 is.2.store.failed now is.2.why (refused_same is.0 x (sym is.1 ∙ same))
+  never x other None e now (inr none) same = let both : NoThread ≡ Refused x = sym none.0 ∙ same in absurd (cc)
   never x other (Some answer) e now is same =
       ∥∥₁_elim is.2 (λ (a b : ⊥). absurd a) (λ it. other is.0 it.0.failed now it.3 (refused_same is.0 x (sym is.1 ∙ same)))
 

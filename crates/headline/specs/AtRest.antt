@@ -3,6 +3,7 @@ use Rattle.std.specs.Prelude.{◌≡◌, false, ℕ, [], None, Some}
 use Rattle.record_values.specs.GeometryValue.{GeometryValue}
 use Rattle.model.specs.Given.{Given}
 use Rattle.model.specs.Table.{Table}
+use Rattle.record_values.specs.Entries.{Index}
 use Rattle.model.specs.declared.life.Life.{Life}
 use Rattle.core_model.specs.Histories.{CanOpen, highest_of}
 use Rattle.store_writer.specs.Parts.{halves_of, image_of}
@@ -11,17 +12,28 @@ use Rattle.restart.specs.declared.parts.EngineParts.{EngineParts}
 use Rattle.restart.specs.Parts.{copying_of, core_of, device_of, has_failed, horizon_of, log_of, unwritten, writer_of}
 use Rattle.restart.specs.Store.{over}
 
--- A store at rest, between two of its days: its rows, how far its index is, the number of the last record that it
--- keeps, and its device's count of failures.
+-- A store at rest, between two of its days: its rows, its entries, marked ones too, how far its index is, the number of
+-- the last record that it keeps, and its device's count of failures.
 pub record AtRest : Type 0 where
   pub rows : Table
+  pub entries : Index
   pub life : Life
   pub last : ℕ
   pub failed : ℕ
 
 -- what was given, on a device with this count
 abbrev pub resting : Given → ℕ → AtRest
-resting given failed = record { rows = given.table; life = given.life; last = given.last; failed = failed }
+resting given failed = record {
+  rows = given.table;
+  entries = given.entries;
+  life = given.life;
+  last = given.last;
+  failed = failed;
+}
+
+-- what a store at rest gives
+abbrev pub given_of : AtRest → Given
+given_of store = record { table = store.rows; entries = store.entries; life = store.life; last = store.last }
 
 -- The engine was opened over the store at rest. Its core has the rows, an index that fits them, and no transaction, and
 -- has done nothing yet. Its records go on behind the last one that was kept. All records are synced, the log is empty,

@@ -11,7 +11,7 @@ use Rattle.locked_core.specs.Names.{IsShared}
 use Rattle.nsf.specs.Closing.{IsCoreOf, table_with, up_to}
 use Rattle.nsf.specs.Gathered.{AreCommitsOf, sessions_of}
 use Rattle.nsf.specs.OpenErrors.{OpenError}
-use Rattle.nsf.specs.OpenErrors.TheVariants.{Refused}
+use Rattle.nsf.specs.OpenErrors.TheVariants.{NoThread, Refused}
 use Rattle.nsf.specs.Seats.{SeatValue}
 use Rattle.nsf.specs.Serving.{HaveWorked, TellsBuild, WhyUnwritten}
 use Rattle.restart.specs.Store.{over}
@@ -91,13 +91,15 @@ pub record HasLivedBeside {D M C : Type 0} (works : C → C → SeatValue → Se
   pub quiet : OnOk answer.written (new.failed ≡ before.failed)
 
 -- Why there is no store behind its days and a day of clients. Before the days or behind them the store wasn't opened;
--- or that of the clients wasn't opened behind them. There was no memory, or a call of the device failed. (No field pins
--- the count as the store stopped. So where it rose, an answer that tells the failure of the wrong one of the two, the
--- work or the opening behind it, fits this too.)
+-- or that of the clients wasn't opened behind them. There was no memory, or a call of the device failed. Or the store
+-- was opened behind the days, and there was no thread for what runs beside the clients. (No field pins the count as the
+-- store stopped. So where it rose, an answer that tells the failure of the wrong one of the two, the work or the
+-- opening behind it, fits this too.)
 abbrev pub IsNotLivedBeside : {D M C : Type 0} → (C → C → SeatValue → SeatValue → Type 0) → (D → ℕ) → GeometryValue
     → AtRest → List (Day M) → List (Answer M) → SharedDay C → Option (SharedAnswer C) → OpenError → (now : ℕ) → Type 0
 IsNotLivedBeside works failures geometry began days answers day None e now =
-    (why : Error) × (e ≡ Refused why) × IsNotReopened failures geometry began days answers why now
+    ((why : Error) × (e ≡ Refused why) × IsNotReopened failures geometry began days answers why now)
+    ⊎ ((e ≡ NoThread) × ((store : AtRest) × AreDays failures geometry began days answers store × (now ≡ store.failed)))
 IsNotLivedBeside works failures geometry began days answers day (Some answer) e now = (why : Error) × (e ≡ Refused why)
     × ∥ ((store : AtRest) × HasLivedBeside works failures geometry began days answers day answer store
     × (store.failed ≤ now) × IsUnopened why store.failed now) ∥₁

@@ -6,7 +6,7 @@ ghost use Rattle.record_values.specs.GeometryValue.{GeometryValue, sectors_of};
 ghost use Rattle.record_values.specs.declared.error.Error.TheVariants.{DeviceTooSmall, TooManyTxns};
 ghost use Rattle.model.specs.Given.{nothing};
 ghost use Rattle.flip_image.specs.Store.{IsDeviceFailure};
-ghost use Rattle.nsf.specs.Openings.{IsNotShared};
+ghost use Rattle.nsf.specs.Serving.{IsNotServed};
 ghost use Rattle.nsf.specs.OpenErrors.TheVariants.{Refused};
 ghost use Rattle.headline.specs.declared.day.Day.{Day};
 ghost use Rattle.headline.specs.Days.{Answer};
@@ -100,7 +100,7 @@ fn serve_clients<C: Client + Send + Drop, D: Mortal + Send, R: Threads + Wait + 
         (answers : List (Answer Global)) → KeepsDays D.past_of D.failures geometry began days answers device
         → ∥ FindsShared C.works D.failures geometry began days answers day r.0 (D.failures r.1)
         (D.past_of r.1).disk.content ∥₁) }
-    ensures refused { IfErr result (λ r. IsNotShared D.past_of D.failures device (vec_len day.clients) r.1 r.0) }
+    ensures refused { IfErr result (λ r. IsNotServed D.past_of D.failures device (vec_len day.clients) r.1 r.0) }
 {
     one_answer();
     written_back();

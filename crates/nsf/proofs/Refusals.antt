@@ -1,21 +1,19 @@
 -- Why no client began, and why not all was written out that clients made.
 use Rattle.std.proofs.Common.{◌≡◌, ◌≤◌, Bool, Err, IfErr, IfOk, Ok, OnOk, Result, ap, false, inl, inr, refl, subst, sym, true, ◌∙◌, ℕ}
 use Rattle.record_values.specs.declared.error.Error.{Error}
-use Rattle.record_values.specs.declared.error.Error.TheVariants.{NoMemory}
 use Rattle.restart.specs.Reopening.{IsTurned}
 use Rattle.sector_device.specs.Disk.{IsSynced}
 use Rattle.sector_device.specs.DevicePast.{DevicePast, Rises}
 use Rattle.threads_flusher.proofs.Going.{counted_then}
-use Rattle.threads_lifetime.specs.Openings.{IsNotShared, IsOpenedOver, LacksMemory, StoreValue}
+use Rattle.threads_lifetime.specs.Openings.{IsNotShared, IsOpenedOver, IsGivenBack, StoreValue}
 use Rattle.threads_lifetime.specs.declared.refusal.OpenError.{OpenError}
-use Rattle.threads_lifetime.specs.declared.refusal.OpenError.TheVariants.{Refused}
-use Rattle.nsf.specs.Serving.{WhyRestUnwritten, WhyUnwritten}
+use Rattle.nsf.specs.Serving.{IsNotServed, IsUnserved, WhyRestUnwritten, WhyUnwritten}
 
 module _ {D : Type 0} (past_of : D → DevicePast) (failures : D
     → ℕ) (before : D) (count : ℕ) (s : StoreValue D) (is : IsOpenedOver past_of failures before count s) where
-  -- there was no memory, and the device is that of the store that was opened
-  lacks_memory : (after : D) → after ≡ s.device → LacksMemory past_of failures before after
-  lacks_memory after same = record {
+  -- the device is that of the store that was opened
+  given_back : (after : D) → after ≡ s.device → IsGivenBack past_of failures before after
+  given_back after same = record {
     opened = s.site.opened;
     opens = is.opened;
     sound = is.sound;
@@ -24,14 +22,15 @@ module _ {D : Type 0} (past_of : D → DevicePast) (failures : D
     quiet = ap failures same ∙ is.quiet;
   }
 
-  pub not_shared : (after : D) (e : OpenError) → e ≡ Refused NoMemory → after ≡ s.device → IsNotShared past_of failures before count after e
-  not_shared after e why same = subst (λ (x : OpenError). IsNotShared past_of failures before count after x) (sym why)
-      (inr (inl (refl, lacks_memory after same)))
+  pub not_served : (after : D) (e : OpenError) → IsUnserved e → after ≡ s.device → IsNotServed past_of failures before count after e
+  not_served after e (inl none) same = inl (subst (λ (x : OpenError). IsNotShared past_of failures before count after x) (sym none)
+      (inr (inl (refl, given_back after same))))
+  not_served after e (inr none) same = inr (none, given_back after same)
 
-  pub none_began : {X : Type 0} (r : Result X (OpenError × D)) → IfErr r (λ x. (x.0 ≡ Refused NoMemory) × (x.1 ≡ s.device))
-      → IfErr r (λ x. IsNotShared past_of failures before count x.1 x.0)
+  pub none_began : {X : Type 0} (r : Result X (OpenError × D)) → IfErr r (λ x. IsUnserved x.0 × (x.1 ≡ s.device))
+      → IfErr r (λ x. IsNotServed past_of failures before count x.1 x.0)
   none_began (Ok x) told = tt
-  none_began (Err x) told = not_shared x.1 x.0 told.0 told.1
+  none_began (Err x) told = not_served x.1 x.0 told.0 told.1
 
 pub both : {T E : Type 0} (P Q : T → Type 0) (r : Result T E) → IfOk r P → IfOk r Q → IfOk r (λ x. P x × Q x)
 both P Q (Ok x) p q = (p, q)

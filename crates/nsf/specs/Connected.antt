@@ -1,5 +1,5 @@
 -- What commits leave of their seat, whose client waits for them.
-use Rattle.std.specs.Prelude.{Err, None, Ok, Option, Result, Some, ℕ, ◌≡◌, ◌≤◌}
+use Rattle.std.specs.Prelude.{Err, Ok, Result, Some, ℕ, ◌≡◌, ◌≤◌}
 use Rattle.record_values.specs.Values.{Place}
 use Rattle.record_values.specs.declared.error.Error.{Error}
 use Rattle.record_values.specs.declared.row.Row.{Row}

@@ -22,6 +22,9 @@ use Rattle.threads_flusher.specs.Part.{IsKeptSince, IsNewest, IsSafeSince, Publi
 use Rattle.threads_leader.specs.Building.{EndsBuilder}
 use Rattle.threads_lifetime.specs.Closing.{GivesAll, GivesSome, IsCoreOf}
 use Rattle.threads_lifetime.specs.Gathered.{AreCommitsOf}
+use Rattle.threads_lifetime.specs.Openings.{IsGivenBack, IsNotShared}
+use Rattle.threads_lifetime.specs.declared.refusal.OpenError.{OpenError}
+use Rattle.threads_lifetime.specs.declared.refusal.OpenError.TheVariants.{NoThread, Refused}
 
 -- Whatever a crash leaves gives what was opened with all commits of these seats set over it, and all else that was
 -- made: the core is as they left it.
@@ -65,6 +68,16 @@ WhyRestUnwritten failed before now e = ((e ≡ NoMemory) × (failed ≡ false) �
 abbrev pub TellsBuild : Opened → Result Ticket Error → Type 0
 TellsBuild o told = IfOk told (λ ticket. ∥ WasServed o Event.Build (builds.built (reply.Done ticket)) ∥₁)
     × IfErr told (EndsBuilder o)
+
+-- Why no clients were served, of which there were to be so many. No store was opened for them; or one was, and what it
+-- opened with is sound, but there was no thread for what runs beside the clients.
+abbrev pub IsNotServed : {D : Type 0} → (D → DevicePast) → (D → ℕ) → D → (count : ℕ) → D → OpenError → Type 0
+IsNotServed past_of failures before count after e = IsNotShared past_of failures before count after e
+    ⊎ ((e ≡ NoThread) × IsGivenBack past_of failures before after)
+
+-- why a store that was opened for clients served none: there was no memory, or no thread (no public clause cites this)
+abbrev pub IsUnserved : OpenError → Type 0
+IsUnserved e = (e ≡ Refused NoMemory) ⊎ (e ≡ NoThread)
 
 -- the seat, whatever its view's name is
 abbrev pub unnamed : SeatValue → SeatValue

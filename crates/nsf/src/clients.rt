@@ -11,10 +11,10 @@ ghost use Rattle.threads_flusher.specs.Part.{IsSafeSince};
 ghost use Rattle.shared.specs.Seats.{AreNewSeats, SeatValue};
 ghost use Rattle.threads_lifetime.specs.Gathered.{AreAllSeats};
 ghost use Rattle.restart.specs.Reopening.{IsTurned};
-ghost use Rattle.threads_lifetime.specs.Openings.{IsNewFlusher, IsNotShared, Opens};
+ghost use Rattle.threads_lifetime.specs.Openings.{IsNewFlusher, Opens};
 ghost use Rattle.threads_lifetime.specs.declared.refusal.OpenError.TheVariants.{Refused};
-ghost use Rattle.nsf.specs.Serving.{HadEnded, HasRoom, IsLaterPast, KeepsSeat, LeavesCommits, LeavesWork, TellsBuild};
-ghost use Rattle.nsf.specs.Serving.{WhyRestUnwritten, WhyUnwritten, unnamed};
+ghost use Rattle.nsf.specs.Serving.{HadEnded, HasRoom, IsLaterPast, IsNotServed, IsUnserved, KeepsSeat, LeavesCommits};
+ghost use Rattle.nsf.specs.Serving.{LeavesWork, TellsBuild, WhyRestUnwritten, WhyUnwritten, unnamed};
 
 use nsf_core::Ticket;
 use records::Error;
@@ -79,7 +79,7 @@ pub struct Served<C, D> {
 /// transaction that a client left active is taken back when the store is opened again.
 ///
 /// The errors are those of `open_store`, as `TooManyTxns` where there are more than 16 clients (`many`), and
-/// `NoMemory`. That comes also where no thread can be made for what runs beside the clients; no client is called then.
+/// `NoMemory`; and `NoThread` where no thread can be made for what runs beside the clients; no client is called then.
 /// (No clause says the last.) The device is given back; a crash at any moment of the call leaves what one before
 /// could, or what gives the same (`refused`).
 pub fn serve<C: Client + Send + Drop, D: Device + Send + Drop, R: Threads + Wait + Sync>(
@@ -96,7 +96,7 @@ pub fn serve<C: Client + Send + Drop, D: Device + Send + Drop, R: Threads + Wait
     ensures quiet { IfOk result (λ s. OnOk s.written (D.failures s.device ≡ D.failures device)) }
     ensures later { IfOk result (λ s. D.failures device ≤ D.failures s.device) }
     ensures clients { IfOk result (λ s. vec_len s.clients ≡ vec_len clients) }
-    ensures refused { IfErr result (λ r. IsNotShared D.past_of D.failures device (vec_len clients) r.1 r.0) }
+    ensures refused { IfErr result (λ r. IsNotServed D.past_of D.failures device (vec_len clients) r.1 r.0) }
     ensures many { 16 < vec_len clients → result ≡ Err (Refused TooManyTxns, device) }
 {
     match serve_and_see(rt, alloc, device, clients, |_: &D| {}) {
@@ -132,7 +132,7 @@ pub fn serve_and_see<
     ensures quiet { IfOk result (λ r. OnOk r.0.written (D.failures r.0.device ≡ D.failures device)) }
     ensures later { IfOk result (λ r. D.failures device ≤ D.failures r.0.device) }
     ensures clients { IfOk result (λ r. vec_len r.0.clients ≡ vec_len clients) }
-    ensures refused { IfErr result (λ r. IsNotShared D.past_of D.failures device (vec_len clients) r.1 r.0) }
+    ensures refused { IfErr result (λ r. IsNotServed D.past_of D.failures device (vec_len clients) r.1 r.0) }
     ensures many { 16 < vec_len clients → result ≡ Err (Refused TooManyTxns, device) }
 {
     match open_store(alloc, device, clients.len()) {
@@ -169,12 +169,12 @@ fn begin<
     ensures quiet { IfOk result (λ r. OnOk r.0.written (D.failures r.0.device ≡ D.failures store.device)) }
     ensures later { IfOk result (λ r. D.failures store.device ≤ D.failures r.0.device) }
     ensures clients { IfOk result (λ r. vec_len r.0.clients ≡ vec_len clients) }
-    ensures no_memory { IfErr result (λ r. (r.0 ≡ Refused NoMemory) × (r.1 ≡ store.device)) }
+    ensures refused { IfErr result (λ r. IsUnserved r.0 × (r.1 ≡ store.device)) }
 {
     match store.start::<B, Told>() {
         Ok((shared, parts)) => match seat_all(rt, alloc, shared, parts, clients, see) {
             Ok(served) => Ok(served),
-            Err(device) => Err((OpenError::Refused(Error::NoMemory), device)),
+            Err(refused) => Err(refused),
         },
         Err((error, device)) => Err((OpenError::Refused(error), device)),
     }
@@ -509,7 +509,7 @@ fn seat_all<
     parts: Parts<B, D>,
     clients: Vec<C>,
     see: F,
-) -> Result<(Served<C, D>, T), D>
+) -> Result<(Served<C, D>, T), (OpenError, D)>
     requires seats { AreNewSeats B.site.board B.site.seats parts.seats.items }
     requires see { F.IsAlwaysCallable see }
     requires flush { IsNewFlusher D.past_of D.marks B.site.board B.site.opened parts.flush }
@@ -525,7 +525,7 @@ fn seat_all<
         ≡ D.failures (device_of parts.flush.writer))) }
     ensures later { IfOk result (λ r. D.failures (device_of parts.flush.writer) ≤ D.failures r.0.device) }
     ensures clients { IfOk result (λ r. vec_len r.0.clients ≡ vec_len clients) }
-    ensures back { IfErr result (λ d. d ≡ device_of parts.flush.writer) }
+    ensures refused { IfErr result (λ r. IsUnserved r.0 × (r.1 ≡ device_of parts.flush.writer)) }
 {
     let Parts {
         seats,
@@ -540,8 +540,8 @@ fn seat_all<
                 let seen = see(ended.flush.device());
                 Ok((end(rt, alloc, shared, ended, room), seen))
             }
-            Err(flush) => Err(let_go(shared, flush)),
+            Err(flush) => Err((OpenError::NoThread, let_go(shared, flush))),
         },
-        Err(AllocError) => Err(let_go(shared, flush)),
+        Err(AllocError) => Err((OpenError::Refused(Error::NoMemory), let_go(shared, flush))),
     }
 }

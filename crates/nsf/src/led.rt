@@ -6,9 +6,9 @@ ghost use Rattle.store_writer.specs.Parts.{device_of};
 ghost use Rattle.threads_flusher.specs.Going.{GoesOn};
 ghost use Rattle.shared.specs.Seats.{AreNewSeats, SeatValue};
 ghost use Rattle.restart.specs.Reopening.{IsTurned};
-ghost use Rattle.threads_lifetime.specs.Openings.{IsNewFlusher, IsNotShared, Opens};
+ghost use Rattle.threads_lifetime.specs.Openings.{IsNewFlusher, Opens};
 ghost use Rattle.threads_lifetime.specs.declared.refusal.OpenError.TheVariants.{Refused};
-ghost use Rattle.nsf.specs.Serving.{KeepsSeat, LeavesWork, TellsBuild, WhyUnwritten};
+ghost use Rattle.nsf.specs.Serving.{IsNotServed, IsUnserved, KeepsSeat, LeavesWork, TellsBuild, WhyUnwritten};
 
 use crate::clients::{Chair, Served, end, seated};
 use crate::connection::{Connection, Waiting};
@@ -60,7 +60,7 @@ pub fn serve_led<C: LedClient + Send + Drop, D: Device + Send + Drop, R: Threads
     ensures quiet { IfOk result (λ s. OnOk s.written (D.failures s.device ≡ D.failures device)) }
     ensures later { IfOk result (λ s. D.failures device ≤ D.failures s.device) }
     ensures clients { IfOk result (λ s. vec_len s.clients ≡ vec_len clients) }
-    ensures refused { IfErr result (λ r. IsNotShared D.past_of D.failures device (vec_len clients) r.1 r.0) }
+    ensures refused { IfErr result (λ r. IsNotServed D.past_of D.failures device (vec_len clients) r.1 r.0) }
     ensures many { 16 < vec_len clients → result ≡ Err (Refused TooManyTxns, device) }
 {
     match open_store(alloc, device, clients.len()) {
@@ -90,12 +90,12 @@ fn begin<
     ensures quiet { IfOk result (λ s. OnOk s.written (D.failures s.device ≡ D.failures store.device)) }
     ensures later { IfOk result (λ s. D.failures store.device ≤ D.failures s.device) }
     ensures clients { IfOk result (λ s. vec_len s.clients ≡ vec_len clients) }
-    ensures no_memory { IfErr result (λ r. (r.0 ≡ Refused NoMemory) × (r.1 ≡ store.device)) }
+    ensures refused { IfErr result (λ r. IsUnserved r.0 × (r.1 ≡ store.device)) }
 {
     match store.start::<B, Told>() {
         Ok((shared, parts)) => match seat_all(rt, alloc, shared, parts, clients) {
             Ok(served) => Ok(served),
-            Err(device) => Err((OpenError::Refused(Error::NoMemory), device)),
+            Err(refused) => Err(refused),
         },
         Err((error, device)) => Err((OpenError::Refused(error), device)),
     }
@@ -220,7 +220,7 @@ fn seat_all<
     shared: Shared<B>,
     parts: Parts<B, D>,
     clients: Vec<C>,
-) -> Result<Served<C, D>, D>
+) -> Result<Served<C, D>, (OpenError, D)>
     requires seats { AreNewSeats B.site.board B.site.seats parts.seats.items }
     requires flush { IsNewFlusher D.past_of D.marks B.site.board B.site.opened parts.flush }
     ensures leaves { IfOk result (λ s. (work : LeavesWork D.past_of D.marks C.works B.site.opened clients.items
@@ -233,7 +233,7 @@ fn seat_all<
         ≡ D.failures (device_of parts.flush.writer))) }
     ensures later { IfOk result (λ s. D.failures (device_of parts.flush.writer) ≤ D.failures s.device) }
     ensures clients { IfOk result (λ s. vec_len s.clients ≡ vec_len clients) }
-    ensures back { IfErr result (λ d. d ≡ device_of parts.flush.writer) }
+    ensures refused { IfErr result (λ r. IsUnserved r.0 × (r.1 ≡ device_of parts.flush.writer)) }
 {
     let Parts {
         seats,
@@ -245,9 +245,9 @@ fn seat_all<
         Ok((chairs, room)) => {
             match run_all::<Brand, B, C, D, R>(rt, &shared, chairs, flush, build, clean) {
                 Ok(ended) => Ok(end(rt, alloc, shared, ended, room)),
-                Err(flush) => Err(let_go(shared, flush)),
+                Err(flush) => Err((OpenError::NoThread, let_go(shared, flush))),
             }
         }
-        Err(AllocError) => Err(let_go(shared, flush)),
+        Err(AllocError) => Err((OpenError::Refused(Error::NoMemory), let_go(shared, flush))),
     }
 }

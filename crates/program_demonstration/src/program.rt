@@ -136,6 +136,7 @@ fn print_refusal<W: Write>(output: &mut W, error: NotOpened) -> io::Result<()> {
     match error {
         NotOpened::Refused(error) => writeln!(output, "refused {error}"),
         NotOpened::Unsound => writeln!(output, "refused Unsound"),
+        NotOpened::NoThread => writeln!(output, "refused NoThread"),
     }
 }
 

@@ -1,5 +1,5 @@
 -- What a seat keeps, and what a writer tells.
-use Rattle.std.proofs.Common.{◌≡◌, ◌⊎◌, ◌∙◌, ◌++◌, ◌∷◌, [], All, Err, IfOk, List, None, Ok, OnErr, OnOk, Option, Result, Some, ⊎_elim, ap, append-nil}
+use Rattle.std.proofs.Common.{◌≡◌, ◌⊎◌, ◌∙◌, ◌++◌, ◌∷◌, [], Err, IfOk, List, None, Ok, OnErr, OnOk, Option, Result, Some, ⊎_elim, ap, append-nil}
 use Rattle.std.proofs.Common.{append_assoc, refl, subst, sym, ℕ}
 use Rattle.std.proofs.lemmas.List.Elements.{All-push, All-weaker}
 use Rattle.model.specs.declared.write.Write.{Write}

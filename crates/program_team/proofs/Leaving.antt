@@ -22,7 +22,7 @@ use Rattle.threads_flusher.specs.Part.{GivesBeginning}
 use Rattle.shared.specs.Seats.{SeatValue}
 use Rattle.threads_lifetime.specs.Closing.{table_with, up_to}
 use Rattle.threads_lifetime.specs.Gathered.{sessions_of}
-use Rattle.threads_lifetime.specs.Openings.{IsOpenedOver, LacksMemory, StoreValue}
+use Rattle.threads_lifetime.specs.Openings.{IsOpenedOver, IsGivenBack, StoreValue}
 use Rattle.program_team.specs.Kept.{HasTicket, KeepsTold, LeavesOpened, told_ticket}
 use Rattle.program_team.specs.declared.writer.Acknowledged.{Acknowledged}
 
@@ -107,9 +107,9 @@ keeps_none o image told none left = ∥∥₁_map left (λ (leaves : LeavesOpene
 
 -- ---- no store was opened
 
-pub lacks_memory : {D : Type 0} (past_of : D → DevicePast) (failures : D → ℕ) (before : D) (count : ℕ) (s : StoreValue D) (after : D)
-    → IsOpenedOver past_of failures before count s → after ≡ s.device → LacksMemory past_of failures before after
-lacks_memory {D = D} past_of failures before count s after is same = subst (λ (d : D). LacksMemory past_of failures before d) (sym same) (record {
+pub given_back : {D : Type 0} (past_of : D → DevicePast) (failures : D → ℕ) (before : D) (count : ℕ) (s : StoreValue D) (after : D)
+    → IsOpenedOver past_of failures before count s → after ≡ s.device → IsGivenBack past_of failures before after
+given_back {D = D} past_of failures before count s after is same = subst (λ (d : D). IsGivenBack past_of failures before d) (sym same) (record {
   opened = s.site.opened;
   opens = is.opened;
   sound = is.sound;

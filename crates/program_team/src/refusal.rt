@@ -12,6 +12,8 @@ pub enum NotOpened {
     Refused(Error),
     /// The store opens, but is not sound: its index doesn't fit its rows.
     Unsound,
+    /// No thread could be made. (An opening alone makes none.)
+    NoThread,
 }
 
 /// The same refusal.
@@ -21,5 +23,6 @@ pub(crate) fn not_opened(error: OpenError) -> NotOpened
     match error {
         OpenError::Refused(error) => NotOpened::Refused(error),
         OpenError::Unsound => NotOpened::Unsound,
+        OpenError::NoThread => NotOpened::NoThread,
     }
 }

@@ -20,6 +20,7 @@ pub(crate) fn open<D: Device, A: Memory>(
         Ok(store) => Ok(store),
         Err((OpenError::Refused(error), device)) => Err((error, device)),
         Err((OpenError::Unsound, device)) => Err((Error::Stopped, device)),
+        Err((OpenError::NoThread, device)) => Err((Error::Stopped, device)),
     }
 }
 

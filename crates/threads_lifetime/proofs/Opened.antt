@@ -26,7 +26,7 @@ use Rattle.restart.specs.Reopening.{IsEmptied, IsOpened, IsTurned, opening}
 use Rattle.restart.specs.Store.{Past, over, run_of}
 use Rattle.shared.specs.Openings.{IsJustOpened, opened_of}
 use Rattle.threads_flusher.specs.Part.{FlushValue, IsMarkOf, count_of, publication_of}
-use Rattle.threads_lifetime.specs.Openings.{IsNewFlusher, IsNewWriter, IsUnsound, LacksMemory, Opens}
+use Rattle.threads_lifetime.specs.Openings.{IsNewFlusher, IsNewWriter, IsUnsound, IsGivenBack, Opens}
 
 -- nothing was served
 both_same : {s new : State} {k next : Standing} → ServesAll s k [] new next → (new ≡ s) × (next ≡ k)
@@ -37,9 +37,9 @@ module _ {D A : Type 0} (past_of : D → DevicePast) (before : D) (engine : Engi
   opens = record { geometry = is.geometry; given = is.given; gives = is.gives; opened = refl }
 
   -- where there was no memory behind the opening, and the device is given back
-  pub lacks_memory : (failures : D → ℕ) (after : D) → CanOpen (over is.geometry is.given) → after ≡ device_of engine
-      → failures (device_of engine) ≡ failures before → LacksMemory past_of failures before after
-  lacks_memory failures after can same quiet = record {
+  pub given_back : (failures : D → ℕ) (after : D) → CanOpen (over is.geometry is.given) → after ≡ device_of engine
+      → failures (device_of engine) ≡ failures before → IsGivenBack past_of failures before after
+  given_back failures after can same quiet = record {
     opened = over is.geometry is.given;
     opens = opens;
     sound = can;

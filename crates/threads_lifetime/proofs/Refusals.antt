@@ -16,7 +16,7 @@ use Rattle.restart.specs.Reopening.{IsNotOpened}
 use Rattle.restart.specs.declared.parts.EngineParts.{EngineParts}
 use Rattle.threads_lifetime.specs.Openings.{IsNotOpenedFrom, IsNotShared, IsOpenedFrom, IsOpenedOver, Opens, StoreValue, WasHindered, WasUnread}
 use Rattle.threads_lifetime.specs.declared.refusal.OpenError.{OpenError}
-use Rattle.threads_lifetime.specs.declared.refusal.OpenError.TheVariants.{Refused, Unsound}
+use Rattle.threads_lifetime.specs.declared.refusal.OpenError.TheVariants.{NoThread, Refused, Unsound}
 use Rattle.threads_lifetime.proofs.Again.{AnswersOne, sound_opening}
 
 -- an image that gives something is not refused, and one is refused in one way
@@ -58,6 +58,7 @@ module _ (one : AnswersOne) (no : RefusesOne) {D : Type 0} (past_of : D → Devi
   sound_store o (Refused e) opens can (inr (inl lacks)) = inl lacks.0
   sound_store o (Refused e) opens can (inr (inr many)) = absurd (omega (arith, few, many.1))
   sound_store o Unsound opens can told = told.unsound (same_sound one past_of failures before told.opened told.opens o opens can)
+  sound_store o NoThread opens can told = absurd told
 
   pub unsound_store : (o : Opened) (e : OpenError) → Opens (past_of before).disk.content o → ¬ CanOpen o
       → IsNotShared past_of failures before count after e → (e ≡ Unsound) ⊎ WasUnread past_of before after e
@@ -66,6 +67,7 @@ module _ (one : AnswersOne) (no : RefusesOne) {D : Type 0} (past_of : D → Devi
       absurd (cannot (same_sound one past_of failures before o opens lacks.1.opened lacks.1.opens lacks.1.sound))
   unsound_store o (Refused e) opens cannot (inr (inr many)) = absurd (omega (arith, few, many.1))
   unsound_store o Unsound opens cannot told = inl refl
+  unsound_store o NoThread opens cannot told = absurd told
 
   pub unreadable_store : (error : Error) (e : OpenError) → IsUnreadable (past_of before).disk.content error
       → IsNotShared past_of failures before count after e → (e ≡ Refused error) ⊎ WasUnread past_of before after e
@@ -76,6 +78,7 @@ module _ (one : AnswersOne) (no : RefusesOne) {D : Type 0} (past_of : D → Devi
   unreadable_store error (Refused e) bad (inr (inr many)) = absurd (omega (arith, few, many.1))
   unreadable_store error Unsound bad told =
       absurd (no.0 (past_of before).disk.content told.opens.geometry told.opens.given error told.opens.gives bad)
+  unreadable_store error NoThread bad told = absurd told
 
 -- ---- of an engine
 
@@ -90,6 +93,7 @@ module _ {D A : Type 0} (past_of : D → DevicePast) (failures : D → ℕ) (old
   busy_engine (Refused e) busy (inl (inr quiet)) = absurd (busy quiet.0)
   busy_engine (Refused e) busy (inr many) = absurd (omega (arith, few, many.1))
   busy_engine Unsound busy told = absurd (busy told.0)
+  busy_engine NoThread busy told = absurd told
 
   pub unsound_engine : (e : OpenError) → IsQuiet (core_of old) → ¬ CanOpen (opened_of (core_of old)) → IsNotOpenedFrom past_of failures old count new e
       → (e ≡ Unsound) × (new ≡ old)
@@ -97,6 +101,7 @@ module _ {D A : Type 0} (past_of : D → DevicePast) (failures : D → ℕ) (old
   unsound_engine (Refused e) quiet cannot (inl (inr sound)) = absurd (cannot sound.1)
   unsound_engine (Refused e) quiet cannot (inr many) = absurd (omega (arith, few, many.1))
   unsound_engine Unsound quiet cannot told = (refl, told.2)
+  unsound_engine NoThread quiet cannot told = absurd told
 
   pub sound_engine : (e : OpenError) → IsQuiet (core_of old) → CanOpen (opened_of (core_of old)) → IsNotOpenedFrom past_of failures old count new e
       → WasHindered e
@@ -105,3 +110,4 @@ module _ {D A : Type 0} (past_of : D → DevicePast) (failures : D → ℕ) (old
       ⊎_elim (λ none. inl none.0) (λ written. ⊎_elim (λ none. inl none.0) (λ failed. inr failed.0) written.answer) sound.2
   sound_engine (Refused e) quiet can (inr many) = absurd (omega (arith, few, many.1))
   sound_engine Unsound quiet can told = told.1 can
+  sound_engine NoThread quiet can told = absurd told

@@ -24,7 +24,7 @@ use Rattle.restart.specs.Settling.{IsNotWritten}
 use Rattle.restart.specs.Store.{InCopy, IsAt, Past, Survives, over}
 use Rattle.restart.specs.declared.parts.EngineParts.{EngineParts}
 use Rattle.threads_lifetime.specs.declared.refusal.OpenError.{OpenError}
-use Rattle.threads_lifetime.specs.declared.refusal.OpenError.TheVariants.{Refused, Unsound}
+use Rattle.threads_lifetime.specs.declared.refusal.OpenError.TheVariants.{NoThread, Refused, Unsound}
 
 -- A store on a device with this content opens with this: with what the content gives, in a store of its geometry.
 pub record Opens (image : CrashState) (o : Opened) : Type 0 where
@@ -111,9 +111,9 @@ pub record IsUnsound {D : Type 0} (past_of : D → DevicePast) (failures : D →
   pub synced : IsSynced (past_of after).disk
   pub quiet : failures after ≡ failures before
 
--- The store opens, and what it opens with is sound; but there was no memory behind that. It was written back as a
+-- The store opens, and what it opens with is sound; but the device is given back behind that. It was written back as a
 -- restart does it; no call of the device failed, and all of the device is synced.
-pub record LacksMemory {D : Type 0} (past_of : D → DevicePast) (failures : D → ℕ) (before after : D) : Type 0 where
+pub record IsGivenBack {D : Type 0} (past_of : D → DevicePast) (failures : D → ℕ) (before after : D) : Type 0 where
   pub opened : Opened
   pub opens : Opens (past_of before).disk.content opened
   pub sound : CanOpen opened
@@ -126,19 +126,22 @@ pub record LacksMemory {D : Type 0} (past_of : D → DevicePast) (failures : D �
 -- it opens with is not sound.
 abbrev pub IsNotShared : {D : Type 0} → (D → DevicePast) → (D → ℕ) → D → (count : ℕ) → D → OpenError → Type 0
 IsNotShared past_of failures before count after (Refused e) = IsNotOpened past_of failures before after e
-    ⊎ (((e ≡ NoMemory) × LacksMemory past_of failures before after)
+    ⊎ (((e ≡ NoMemory) × IsGivenBack past_of failures before after)
     ⊎ ((e ≡ TooManyTxns) × (16 < count) × (after ≡ before)))
 IsNotShared past_of failures before count after Unsound = IsUnsound past_of failures before after
+IsNotShared past_of failures before count after NoThread = ⊥
 
 -- Nothing is told of what was to be opened: there was no memory, or the device failed.
 abbrev pub WasHindered : OpenError → Type 0
 WasHindered (Refused e) = (e ≡ NoMemory) ⊎ (e ≡ DeviceFailed)
 WasHindered Unsound = ⊥
+WasHindered NoThread = ⊥
 
 -- So it was before anything was written: there was no memory to read the device, or it failed.
 abbrev pub WasUnread : {D : Type 0} → (D → DevicePast) → D → D → OpenError → Type 0
 WasUnread past_of before after (Refused e) = ((e ≡ NoMemory) × IsUnwritten past_of before after) ⊎ (e ≡ DeviceFailed)
 WasUnread past_of before after Unsound = ⊥
+WasUnread past_of before after NoThread = ⊥
 
 -- So many seats, 16 at most, are open over what the engine held, with no transaction active: the same rows and entries,
 -- the index as far as it was, after the same last record. It is sound, and all of it is synced: a crash of the device
@@ -176,3 +179,4 @@ IsNotOpenedFrom past_of failures old count new (Refused e) = IsRefusedFrom past_
     ⊎ ((e ≡ TooManyTxns) × (16 < count) × (new ≡ old))
 IsNotOpenedFrom past_of failures old count new Unsound = IsQuiet (core_of old) × (CanOpen (opened_of (core_of old)) → ⊥)
     × (new ≡ old)
+IsNotOpenedFrom past_of failures old count new NoThread = ⊥

@@ -11,6 +11,10 @@ pub enum OpenError {
     /// it.
     #[error("Unsound")]
     Unsound,
+    /// The store opens, but no thread could be made for what runs beside its clients. (An opening alone makes none, and
+    /// never answers so.)
+    #[error("NoThread")]
+    NoThread,
 }
 
 /// No more seats than this share a store: as many as transactions may be active.

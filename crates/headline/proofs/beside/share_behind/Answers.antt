@@ -1,12 +1,12 @@
 use Rattle.headline.specs.Kept.{IsBegun}
-use Rattle.headline.proofs.Shared.{lived_on, not_shared, unbuilt_on, unopened_on}
+use Rattle.headline.proofs.Shared.{lived_on, not_served, unbuilt_on, unopened_on}
 use Rattle.headline.proofs.Stopped.{Images}
 use Rattle.headline.proofs.beside.share_behind.Goals as goal
 
 pub returns-in-Err-clause-refused : goal.returns-in-Err-clause-refused
 returns-in-Err-clause-refused g c = λ size began days kept.
     let images : Images = record { geometry = c.one_answer.ensures.geometry; given = c.one_answer.ensures.given; readable = c.one_answer.ensures.readable } in
-    not_shared g.D.Device.past_of g.D.Device.failures g.C.Client.works size began days c.args.answers.items c.args.day c.args.device
+    not_served g.D.Device.past_of g.D.Device.failures g.C.Client.works size began days c.args.answers.items c.args.day c.args.device
     kept images c.args.day.clients.len c.in-Err.device c.in-Err.error c.requires
     c.in-Err.ensures.refused
 

@@ -1,7 +1,7 @@
-use Rattle.std.proofs.Common.{IfErr, IfOk, OnOk, subst, sym, ℕ, ◌≡◌, ◌<◌, ◌≤◌}
+use Rattle.std.proofs.Common.{IfErr, IfOk, OnOk, inl, subst, sym, ℕ, ◌≡◌, ◌<◌, ◌≤◌}
 use Rattle.std.proofs.lemmas.Result.{IfOk-weaker}
 use Rattle.threads_lifetime.specs.Openings.{IsNotShared}
-use Rattle.nsf.specs.Serving.{WhyUnwritten}
+use Rattle.nsf.specs.Serving.{IsNotServed, WhyUnwritten}
 use Rattle.nsf.proofs.Refusals.{both, never_both, none_began, same_refusal}
 use Rattle.nsf.proofs.clients.serve_and_see.Goals as goal
 
@@ -24,8 +24,8 @@ pub returns-in-Ok-clause-refused : goal.returns-in-Ok-clause-refused
 returns-in-Ok-clause-refused g c =
     let past_of = g.D.Device.past_of in
     let failures = g.D.Device.failures in
-    subst (λ (n : ℕ). IfErr c.begin.result (λ r. IsNotShared past_of failures c.args.device n r.1 r.0)) c.len.ensures
-    (none_began past_of failures c.args.device c.len.result c.in-Ok.store c.in-Ok.ensures.opened c.begin.result c.begin.ensures.no_memory)
+    subst (λ (n : ℕ). IfErr c.begin.result (λ r. IsNotServed past_of failures c.args.device n r.1 r.0)) c.len.ensures
+    (none_began past_of failures c.args.device c.len.result c.in-Ok.store c.in-Ok.ensures.opened c.begin.result c.begin.ensures.refused)
 
 pub returns-in-Ok-clause-later : goal.returns-in-Ok-clause-later
 returns-in-Ok-clause-later g c =
@@ -49,6 +49,6 @@ returns-in-Err g c =
       later = tt;
       clients = tt;
       refused =
-          subst (λ (n : ℕ). IsNotShared g.D.Device.past_of g.D.Device.failures c.args.device n refused.1 refused.0) c.len.ensures c.in-Err.ensures.refused;
+          inl (subst (λ (n : ℕ). IsNotShared g.D.Device.past_of g.D.Device.failures c.args.device n refused.1 refused.0) c.len.ensures c.in-Err.ensures.refused);
       many = λ more. same_refusal c.open_store.result _ _ c.in-Err.is (c.open_store.ensures.many (subst (λ (n : ℕ). 16 < n) (sym c.len.ensures) more));
     }

@@ -1,4 +1,4 @@
-use Rattle.std.proofs.Common.{◌≡◌, ◌∙◌, IfErr, OnOk, ap, arith, map, refl, subst}
+use Rattle.std.proofs.Common.{◌≡◌, ◌∙◌, IfErr, OnOk, ap, arith, inl, map, subst}
 use Rattle.shared.specs.Seats.{SeatValue}
 use Rattle.threads_lifetime.specs.declared.refusal.OpenError.TheVariants.{Refused}
 use Rattle.nsf.specs.Serving.{WhyUnwritten, LeavesWork}
@@ -19,7 +19,7 @@ returns-in-Ok-seat_all g c =
       quiet = subst (λ d. OnOk served.written (failures served.device ≡ failures d)) device done.quiet;
       later = omega (arith, ap failures device, done.later);
       clients = done.clients;
-      no_memory = tt;
+      refused = tt;
     }
 
 pub returns-in-Err-seat_all : goal.returns-in-Err-seat_all
@@ -30,7 +30,7 @@ returns-in-Err-seat_all g c = record {
   quiet = tt;
   later = tt;
   clients = tt;
-  no_memory = (refl, c.in-Err-seat_all.ensures.back ∙ c.in-Ok.ensures.device);
+  refused = (c.in-Err-seat_all.ensures.refused.0, c.in-Err-seat_all.ensures.refused.1 ∙ c.in-Ok.ensures.device);
 }
 
 pub returns-in-Err : goal.returns-in-Err
@@ -41,5 +41,5 @@ returns-in-Err g c = record {
   quiet = tt;
   later = tt;
   clients = tt;
-  no_memory = (ap Refused c.in-Err.ensures.no_memory, c.in-Err.ensures.back);
+  refused = (inl (ap Refused c.in-Err.ensures.no_memory), c.in-Err.ensures.back);
 }

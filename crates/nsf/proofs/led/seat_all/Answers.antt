@@ -1,4 +1,4 @@
-use Rattle.std.proofs.Common.{List, ap, arith, map, subst, sym, ◌++◌, ◌∙◌}
+use Rattle.std.proofs.Common.{List, ap, arith, inl, inr, map, refl, subst, sym, ◌++◌, ◌∙◌}
 use Rattle.threads_lifetime.specs.Gathered.{AreAllSeats}
 use Rattle.shared.specs.Seats.{SeatValue}
 use Rattle.sector_device.specs.DevicePast.{LeavesOnly}
@@ -83,7 +83,7 @@ returns-in-Ok-run_all g c =
           c.in-Ok-run_all.ensures.going.quiet c.end.result.written ended.sound ended.quiet;
       later = omega (arith, c.in-Ok-run_all.ensures.going.later, ended.later);
       clients = ended.clients ∙ c.in-Ok-run_all.ensures.len ∙ c.in-Ok.ensures.clients;
-      back = tt;
+      refused = tt;
     }
 
 pub returns-in-Err-run_all : goal.returns-in-Err-run_all
@@ -94,7 +94,7 @@ returns-in-Err-run_all g c = record {
   quiet = tt;
   later = tt;
   clients = tt;
-  back = c.let_go.ensures.device ∙ ap (λ f. device_of f.writer) c.in-Err-run_all.ensures.back;
+  refused = (inr refl, c.let_go.ensures.device ∙ ap (λ f. device_of f.writer) c.in-Err-run_all.ensures.back);
 }
 
 pub returns-in-Err : goal.returns-in-Err
@@ -105,5 +105,5 @@ returns-in-Err g c = record {
   quiet = tt;
   later = tt;
   clients = tt;
-  back = c.let_go-in-Err.ensures.device;
+  refused = (inl refl, c.let_go-in-Err.ensures.device);
 }

@@ -3,7 +3,7 @@ use Rattle.std.proofs.lemmas.Result.{IfErr-weaker, IfOk-weaker}
 use Rattle.record_values.specs.declared.error.Error.TheVariants.{NoMemory}
 use Rattle.threads_lifetime.specs.Openings.{IsNotShared}
 use Rattle.threads_lifetime.specs.declared.refusal.OpenError.TheVariants.{Refused}
-use Rattle.program_team.proofs.Leaving.{lacks_memory}
+use Rattle.program_team.proofs.Leaving.{given_back}
 use Rattle.program_team.proofs.team.work_on.Goals as goal
 
 pub returns-in-Ok : goal.returns-in-Ok
@@ -13,7 +13,7 @@ returns-in-Ok g c = record {
   refused = IfErr-weaker c.begin.result _ _ (λ r is. (
     Refused NoMemory,
     is.0,
-    inr (inl (refl, lacks_memory g.D.Device.past_of g.D.Device.failures c.args.device _ c.in-Ok.store r.1 c.in-Ok.ensures.opened is.1)),
+    inr (inl (refl, given_back g.D.Device.past_of g.D.Device.failures c.args.device _ c.in-Ok.store r.1 c.in-Ok.ensures.opened is.1)),
   )) c.begin.ensures.refused;
 }
 

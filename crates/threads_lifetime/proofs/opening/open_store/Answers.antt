@@ -8,7 +8,7 @@ use Rattle.sector_device.specs.Disk.{IsSynced}
 use Rattle.store_writer.specs.Parts.{device_of}
 use Rattle.shared.specs.Openings.{IsJustOpened, IsOpening, opened_of}
 use Rattle.threads_lifetime.specs.Openings.{IsNewWriter, Opens}
-use Rattle.threads_lifetime.proofs.Opened.{just_opened, lacks_memory, new_over_core, opened_is, opens, sound_opened, unsound_opened}
+use Rattle.threads_lifetime.proofs.Opened.{just_opened, given_back, new_over_core, opened_is, opens, sound_opened, unsound_opened}
 use Rattle.threads_lifetime.proofs.opening.open_store.Goals as goal
 
 pub invariant_of-result : goal.invariant_of-result
@@ -67,7 +67,7 @@ returns-in-Err-open g c =
       opened = tt;
       refused = inr (inl (
         c.in-Err-open.ensures.no_memory,
-        lacks_memory g.D.Device.past_of c.args.device c.in-Ok.engine is g.D.Device.failures _ can
+        given_back g.D.Device.past_of c.args.device c.in-Ok.engine is g.D.Device.failures _ can
             (c.into_device-in-Err-open.ensures.device ∙ ap (λ w. device_of w) c.into_parts-core.ensures.parts.writer-is) c.in-Ok.ensures.quiet,
       ));
       many = λ more. absurd (omega (arith, more));

@@ -1,4 +1,4 @@
-use Rattle.std.proofs.Common.{◌≡◌, ◌≤◌, ap, arith, refl, subst, sym}
+use Rattle.std.proofs.Common.{◌≡◌, ap, arith, refl, subst, sym}
 use Rattle.core_model.specs.Events.{Event}
 use Rattle.core_parts.specs.Replies.{reply_of_ticket}
 use Rattle.core_parts.specs.declared.parts.Ticket.{Ticket}
