@@ -49,6 +49,7 @@ returns-in-Err g c =
       later = tt;
       clients = tt;
       refused =
-          inl (subst (λ (n : ℕ). IsNotShared g.D.Device.past_of g.D.Device.failures c.args.device n refused.1 refused.0) c.len.ensures c.in-Err.ensures.refused);
+          inl (subst (λ (n : ℕ). IsNotShared g.D.Device.past_of g.D.Device.failures c.args.device n refused.1 refused.0) c.len.ensures
+          c.in-Err.ensures.refused);
       many = λ more. same_refusal c.open_store.result _ _ c.in-Err.is (c.open_store.ensures.many (subst (λ (n : ℕ). 16 < n) (sym c.len.ensures) more));
     }
