@@ -158,11 +158,11 @@ fn salvage_older<O: Device>(
 fn salvage_newest<O: Device>(
     alloc: Global,
     old: &mut O,
-    given: Option<Geometry>,
+    given: &Option<Geometry>,
 ) -> Result<Found, Error> {
-    match salvage_half(alloc, old, given, false) {
+    match salvage_half(alloc, old, *given, false) {
         Err(Error::Damaged { sector }) if sector != SUPERBLOCK_SECTOR => {
-            salvage_older(alloc, old, given, Error::Damaged { sector })
+            salvage_older(alloc, old, *given, Error::Damaged { sector })
         }
         found => found,
     }
@@ -241,7 +241,7 @@ fn salvaged_disk<O: Device, W: Write>(
     given: Option<Geometry>,
     output: &mut W,
 ) -> Result<Memory, Refused> {
-    let found = salvage_newest(alloc, old, given)?;
+    let found = salvage_newest(alloc, old, &given)?;
     let written = write_lost(&found, output);
     let disk = found.into_disk();
     match written {

@@ -72,7 +72,7 @@ fn take_from<R: Files<File = File> + AllocGlobal, O: Device + InFile + Troubled,
 fn old_device<R: Files<File = File> + AllocGlobal>(
     rt: &R,
     old: &str,
-    taking: Taking,
+    taking: &Taking,
 ) -> Result<HeldDevice<File, Global>, NotMoved> {
     let held = match taking {
         Taking::Salvage { .. } => hold_whole_device(rt, rt.alloc(), old),
@@ -95,7 +95,7 @@ pub fn take_over<R: Files<File = File> + AllocGlobal, W: Write>(
     taking: Taking,
     output: &mut W,
 ) -> Result<(), NotMoved> {
-    let mut disk = old_device(rt, old, taking)?;
+    let mut disk = old_device(rt, old, &taking)?;
     let is_in_blocks = matches!(disk, FileDevice::Blocks(_));
     take_from(rt, &mut disk, is_in_blocks, new, taking, output)
 }
