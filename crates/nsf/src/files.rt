@@ -139,7 +139,8 @@ where
 /// two it does, no clause says.)
 ///
 /// The refusals are those of `file::open`, and of `create_store`: `Exists` where the file was made meanwhile. A draft
-/// that was left by a making that was cut off is told as `DraftExists`, or `DraftEmpty`.
+/// that was left by a making that was cut off gives way (`file::create`). `DraftExists` where something else has its
+/// name.
 pub fn open_or_create<R: Files + AllocGlobal, A: Allocator>(
     rt: &R,
     alloc: A,
