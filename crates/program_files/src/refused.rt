@@ -51,6 +51,8 @@ pub enum Refused {
     SmallIndex,
     /// The store opens, but its index doesn't fit its rows.
     Unsound,
+    /// No thread could be made.
+    NoThread,
     /// The disk has more sectors than the store needs that it begins with.
     Longer { sectors: u64, needed: u64 },
     /// The store that is to be moved is of version 2 or 3 already.
@@ -209,6 +211,7 @@ fn write_longer<W: fmt::Write>(
 fn text_of_refusal(refused: &Refused) -> &'static str {
     match refused {
         Refused::Unsound => "it opens, but its index isn't that of its rows",
+        Refused::NoThread => "no thread could be made",
         Refused::Newer => "it holds a store of version 2 or 3, which needs no move",
         Refused::FullIndex => FULL_INDEX,
         Refused::SmallIndex => "its index has fewer places than the table has rows",

@@ -172,9 +172,10 @@ fn take<R: Files<File = File> + AllocGlobal, W: Write, E: Write>(
     output: &mut W,
     errors: &mut E,
 ) -> u8 {
+    let is_move = matches!(taking, Taking::Move { .. });
     match take_over(rt, old, new, taking, output) {
         Ok(()) => {
-            if let Taking::Move { .. } = taking {
+            if is_move {
                 tell_unsound(rt, new, errors);
             }
             show_new(rt, new, output, errors)
