@@ -1,4 +1,6 @@
 // The calls of a device by which a group of records is added to a log.
+ghost use Rattle.std.specs.Prelude.{◌≡◌};
+
 use crate::values::{claim, claim_at};
 use gate_log::{Appended, LogArea, fits};
 use records::{Error, Record};
@@ -35,7 +37,9 @@ impl<D> Noting<D> {
         }
     }
 
-    fn note(&mut self, call: u8) {
+    fn note(&mut self, call: u8)
+        ensures { self.new.device ≡ self.old.device }
+    {
         if self.made < 32 {
             self.calls[self.made] = call;
             self.made += 1;
@@ -96,18 +100,22 @@ fn add_groups<D: Device, A: Allocator + Copy>(
     let mut log = LogArea::new(FIRST, SLOTS);
     log.clear(disk)?;
     let cleared = disk.made;
-    let first = log.append(alloc, disk, records)?;
+    let Appended::Done = log.append(alloc, disk, records)? else {
+        return Ok(None);
+    };
     let added = disk.made;
-    let second = log.append(alloc, disk, records)?;
+    let Appended::Done = log.append(alloc, disk, records)? else {
+        return Ok(None);
+    };
     let both = disk.made;
-    let third = log.append(alloc, disk, records)?;
-    let all = first == Appended::Done && second == Appended::Done && third == Appended::Full;
-    let made = Made {
+    let Appended::Full = log.append(alloc, disk, records)? else {
+        return Ok(None);
+    };
+    Ok(Some(Made {
         cleared,
         added,
         both,
-    };
-    Ok(if all { Some(made) } else { None })
+    }))
 }
 
 // Whether each group takes just those calls, and one that has no room none.

@@ -104,9 +104,9 @@ fn is_head_of(number: u64) -> bool {
 const LETTERS: &[u8] = &[b'x'; 70];
 
 // The row whose key and body have so many letters.
-fn row_of(key: usize, body: usize) -> Result<Row, Error> {
-    let key = LETTERS.get(..key).ok_or(Error::KeyTooLong)?;
-    let body = LETTERS.get(..body).ok_or(Error::BodyTooLong)?;
+fn row_of(key: u8, body: u8) -> Result<Row, Error> {
+    let key = LETTERS.get(..usize::from(key)).ok_or(Error::KeyTooLong)?;
+    let body = LETTERS.get(..usize::from(body)).ok_or(Error::BodyTooLong)?;
     Ok(Row {
         key: Key::new(key)?,
         body: Body::new(body)?,
@@ -114,10 +114,10 @@ fn row_of(key: usize, body: usize) -> Result<Row, Error> {
 }
 
 // Whether the row is spelled so: a 1, the key and the body, each after its length, and zeros after each.
-fn is_row_of(key: usize, body: usize) -> Result<bool, Error> {
+fn is_row_of(key: u8, body: u8) -> Result<bool, Error> {
     let row = row_of(key, body)?;
     let spelled = spell_row(&Some(row));
-    let lengths = [1, key as u8, body as u8];
+    let lengths = [1, key, body];
     let pieces: [(usize, &[u8]); 4] = [
         (0, &lengths[..2]),
         (2, row.key.as_slice()),
@@ -129,8 +129,8 @@ fn is_row_of(key: usize, body: usize) -> Result<bool, Error> {
 
 // Whether a row of each length is spelled so, and a longer key and a longer body are refused.
 fn are_rows_of_each_length() -> Result<bool, Error> {
-    for key in 0..=KEY_MAX {
-        for body in 0..=BODY_MAX {
+    for key in 0..=KEY_MAX as u8 {
+        for body in 0..=BODY_MAX as u8 {
             if !is_row_of(key, body)? {
                 return Ok(false);
             }

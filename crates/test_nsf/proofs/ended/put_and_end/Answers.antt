@@ -10,7 +10,7 @@ end-requires g c =
     let seats : List SeatValue = c.pop.new.self.items in
     let put = c.put_one-put.new.seat in
     let parted = all_but_last z.board z.seats seats c.in-Some.seat
-        (subst (λ (items : List SeatValue). AreNewSeats z.board z.seats items) c.in-Some.ensures.items c.requires) in
+    (subst (λ (items : List SeatValue). AreNewSeats z.board z.seats items) c.in-Some.ensures.items c.requires) in
     subst (λ (items : List SeatValue). AreAllSeats z.seats items) (sym c.in-Ok.ensures.items)
     (subst (λ (n : ℕ). AreAllSeats n (seats ++ put ∷ [])) parted.2
     (one_more (length seats) seats put parted.0 (c.put_one-put.ensures ∙ parted.1)))
