@@ -215,14 +215,25 @@ def a_draft_that_is_left_gives_way():
     made("old")
     for make in (("new", "z"), ("new", "z", "--blocks"), ("backup", "old", "z"), ("migrate", "old", "z", "--blocks"), ("salvage", "old", "z")):
         for left in (b"", bytes(700), b"NSFINDEX" + bytes(504), b"NSFBLOCK" + bytes(9000)):
-            pathlib.Path("z.new").write_bytes(left)
+            pathlib.Path("z.nsf-draft").write_bytes(left)
             want(store(*make), 0)
-            assert not os.path.exists("z.new")
+            assert not os.path.exists("z.nsf-draft")
             want(store("check", "z"), 0, "sound\n")
             os.remove("z")
-    pathlib.Path("z.new").write_bytes(b"a letter")
+    pathlib.Path("z.nsf-draft").write_bytes(b"a letter")
     want(store("new", "z"), 1, "", "no part of a store")
-    assert pathlib.Path("z.new").read_bytes() == b"a letter"
+    assert pathlib.Path("z.nsf-draft").read_bytes() == b"a letter"
+
+
+def a_store_beside_a_making_stays():
+    for name in ("z.new", "z.draft"):
+        made(name)
+        want(store("run", name, feed="begin\ninsert 1 =kept =here\ncommit! 1\n"), 0)
+        for make in (("new", "z"), ("new", "z", "--blocks"), ("backup", name, "z")):
+            want(store(*make), 0)
+            os.remove("z")
+            assert b"6b657074" in store("dump", name).stdout, f"{make[0]} took the row of {name}"
+        os.remove(name)
 
 
 def a_killed_making_gives_way():
@@ -233,7 +244,7 @@ def a_killed_making_gives_way():
         child.wait()
         if not os.path.exists("big"):
             want(store("new", "big"), 0)
-        assert not os.path.exists("big.new")
+        assert not os.path.exists("big.nsf-draft")
         os.remove("big")
 
 
@@ -242,7 +253,7 @@ def one_of_many_makings_has_the_name():
         makings = [subprocess.Popen([STORE, "new", "one"], stderr=subprocess.DEVNULL) for _ in range(12)]
         assert sorted(making.wait() for making in makings) == [0] + [1] * 11
         want(store("check", "one"), 0, "sound\n")
-        assert not os.path.exists("one.new")
+        assert not os.path.exists("one.nsf-draft")
         os.remove("one")
 
 
@@ -252,7 +263,7 @@ def no_refused_allocation_leaves_a_draft():
     for make in (("new", "z", "--rows", "50", "--blocks"), ("backup", "s", "z"), ("migrate", "s", "z", "--blocks"), ("salvage", "s", "z", "--blocks")):
         for number in range(1, 1000):
             done = refused(library, number, *make)
-            assert not os.path.exists("z.new"), f"{make[0]}, allocation {number}: {done.stderr}"
+            assert not os.path.exists("z.nsf-draft"), f"{make[0]}, allocation {number}: {done.stderr}"
             said = done.stderr.decode()
             if os.path.exists("z"):
                 assert done.returncode == 0 or "it is made, and whole" in said, f"{make[0]}, allocation {number}: {said}"
@@ -455,7 +466,8 @@ def a_size_stands_in_for_the_first_sector():
 
 CASES = [
     a_wait_opens_the_file_that_has_the_name_then, a_copy_is_never_of_another_file, no_bit_of_the_geometry_is_silent,
-    a_longer_file_is_refused_and_salvaged, a_draft_that_is_left_gives_way, a_killed_making_gives_way, one_of_many_makings_has_the_name,
+    a_longer_file_is_refused_and_salvaged, a_draft_that_is_left_gives_way, a_store_beside_a_making_stays,
+    a_killed_making_gives_way, one_of_many_makings_has_the_name,
     no_refused_allocation_leaves_a_draft, a_line_without_end_takes_little_room, a_long_line_is_answered_as_a_short_one,
     a_record_that_is_too_long_ends_the_load, want_of_memory_is_told_as_that, a_file_that_is_made_is_told,
     a_moved_index_that_does_not_fit_is_told, other_files_are_not_drawn_over, a_file_of_blocks_is_told_to_the_threads,

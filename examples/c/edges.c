@@ -552,7 +552,7 @@ int main(int words, char **word)
     }
     char draft[4096];
     bool is_so = true;
-    snprintf(draft, sizeof draft, "%s.new", word[1]);
+    snprintf(draft, sizeof draft, "%s.nsf-draft", word[1]);
     tell("a child of a fork keeps no store open", is_free_of_children(word[1]));
     tell("a refused creation leaves nothing", leaves_nothing(word[1], draft));
     tell("a creation leaves other files alone", leaves_others(word[1], draft));

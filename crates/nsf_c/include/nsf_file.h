@@ -158,10 +158,10 @@ static inline bool nsf_sync_folder(const char *path)
 /* The name of the draft of a file, to be freed; NULL where memory is refused. */
 static inline char *nsf_draft_of(const char *path)
 {
-    const size_t length = strlen(path) + sizeof ".new";
+    const size_t length = strlen(path) + sizeof ".nsf-draft";
     char *draft = (char *)malloc(length);
     if (draft)
-        snprintf(draft, length, "%s.new", path);
+        snprintf(draft, length, "%s.nsf-draft", path);
     return draft;
 }
 
@@ -290,7 +290,7 @@ static inline uint32_t nsf_file_make(nsf_file *f, const char *draft, const char 
     return refused;
 }
 
-/* Makes a store in a new file and opens it. Until it is made, the file has the name with .new added, its draft, so that a crash meanwhile
+/* Makes a store in a new file and opens it. Until it is made, the file has the name with .nsf-draft added, its draft, so that a crash meanwhile
  * leaves no half of a store. A draft that such a crash left is removed: one that nobody has open, and that begins with a store or with
  * zeros. Another file that has one of the names is left alone (EEXIST), and so is a draft that another process makes now (EWOULDBLOCK).
  * Where the call is refused, no other file is left. `f` stays where it is until nsf_file_close. */

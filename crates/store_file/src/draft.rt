@@ -183,15 +183,16 @@ where
     sync_folder(rt, path)
 }
 
-/// Makes a file of so many sectors of zeros, all of them safe, and a disk over it, under the name `PATH.new`:
+/// Makes a file of so many sectors of zeros, all of them safe, and a disk over it, under the name `PATH.nsf-draft`:
 /// [`publish`] gives it its own. So a crash meanwhile leaves no half of a store under it. Where it is refused, no file
 /// is left, if that can be removed.
 ///
-/// A file of the name `PATH.new` that was left by a making that was cut off gives way: nobody has it open, and it
-/// begins with a store, or with zeros as far as it has a first sector. (That is only tested.)
+/// A file of the name `PATH.nsf-draft` that was left by a making that was cut off gives way: nobody has it open, and it
+/// begins with a store, or with zeros as far as it has a first sector. (That is only tested.) So names that end in
+/// `.nsf-draft` are of drafts alone: a store is to have no such name.
 ///
 /// `Exists` where something has the name `PATH`. `DraftInUse` where another process makes it now, and `DraftExists`
-/// where something else has the name `PATH.new`. `BadLength` for no sector or more than 2^23.
+/// where something else has the name `PATH.nsf-draft`. `BadLength` for no sector or more than 2^23.
 pub fn create<R: Files + AllocGlobal, A: Allocator>(
     rt: &R,
     alloc: A,

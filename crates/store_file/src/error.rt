@@ -15,9 +15,9 @@ pub enum OpenError {
     Busy,
     /// It is there already.
     Exists,
-    /// Something has the name under which it would be made, `PATH.new`, that was not left by a making.
+    /// Something has the name under which it would be made, `PATH.nsf-draft`, that was not left by a making.
     DraftExists,
-    /// Another process, or another disk of this one, has `PATH.new` open, as one that makes it now.
+    /// Another process, or another disk of this one, has `PATH.nsf-draft` open, as one that makes it now.
     DraftInUse,
     /// It is made, and has its name, but the system refused a call behind that: the name may not be safe, or that of
     /// its draft is there too, which the next opening takes away.
@@ -61,10 +61,10 @@ impl fmt::Display for OpenError {
             OpenError::Busy => f.write_str("another process has it open"),
             OpenError::Exists => f.write_str("it is there already"),
             OpenError::DraftExists => f.write_str(
-                "something that is no part of a store has this name with .new added, under which it would be made",
+                "something that is no part of a store has this name with .nsf-draft added, under which it would be made",
             ),
             OpenError::DraftInUse => {
-                f.write_str("another process makes it now, under this name with .new behind it")
+                f.write_str("another process makes it now, under this name with .nsf-draft added")
             }
             OpenError::Made(trouble) => {
                 write!(

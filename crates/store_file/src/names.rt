@@ -11,7 +11,7 @@ use std::{fs, io};
 
 /// The name under which the file of this path is made, until it is published.
 pub(crate) fn draft_of<A: Allocator>(alloc: A, path: &str) -> Result<String<A>, AllocError> {
-    format!(in alloc; "{path}.new")
+    format!(in alloc; "{path}.nsf-draft")
 }
 
 /// What has this name, if anything.

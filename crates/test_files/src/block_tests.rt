@@ -49,7 +49,7 @@ const SOUND: Deed = Deed::Call(&["nsf-store", "check", "b"], 0, "sound\n", "");
 static SHOWN: [Deed; 10] = [
     Deed::Call(NEW, 0, "", ""),
     Deed::Call(NEW, 1, "", "nsf-store: b: it is there already\n"),
-    Deed::Act("b.new", Act::Miss),
+    Deed::Act("b.nsf-draft", Act::Miss),
     SOUND,
     Deed::Serve(ProgramRun {
         words: &["nsf-store", "run", "b"],

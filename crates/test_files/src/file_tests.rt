@@ -51,13 +51,16 @@ static DRAFT: [Scene; 5] = [
     (
         Nothing,
         Plain,
-        &[("kept.new", Step::Act(Act::NameToo("kept")), "done")],
+        &[("kept.nsf-draft", Step::Act(Act::NameToo("kept")), "done")],
     ),
     (Copy("kept"), Plain, &[("kept", HOLD_SEVENS, "done")]),
     (
         Disk("kept"),
         Plain,
-        &[("kept", HOLD_SEVENS, "done"), ("kept.new", MISS, "done")],
+        &[
+            ("kept", HOLD_SEVENS, "done"),
+            ("kept.nsf-draft", MISS, "done"),
+        ],
     ),
     (
         Nothing,
@@ -65,7 +68,7 @@ static DRAFT: [Scene; 5] = [
         &[
             ("kept", REMOVE, "done"),
             ("other", Step::Call(Call::CreateInNone), "NoMemory"),
-            ("other.new", MISS, "done"),
+            ("other.nsf-draft", MISS, "done"),
         ],
     ),
 ];
@@ -108,11 +111,11 @@ static REFUSED: [Scene; 1] = [(
         ("link", OPEN, "Linked"),
         ("missing", OPEN, "System 2"),
         ("short", Step::Act(Act::NameToo("other")), "done"),
-        ("short.new", PUT, "done"),
+        ("short.nsf-draft", PUT, "done"),
         ("short", OPEN, "Linked"),
-        ("short.new", HOLD, "done"),
+        ("short.nsf-draft", HOLD, "done"),
         ("short", REMOVE, "done"),
-        ("short.new", REMOVE, "done"),
+        ("short.nsf-draft", REMOVE, "done"),
         ("empty", REMOVE, "done"),
         ("link", REMOVE, "done"),
         ("other", REMOVE, "done"),
@@ -275,8 +278,8 @@ static LEFT: [Scene; 6] = [
         Nothing,
         Calls(b"krfkwwwwsfkrf", 0),
         &[
-            ("left.new", Step::Act(Act::Hold(0, 0, 1_024)), "done"),
-            ("left.new", Step::Act(Act::Put(0, 700)), "done"),
+            ("left.nsf-draft", Step::Act(Act::Hold(0, 0, 1_024)), "done"),
+            ("left.nsf-draft", Step::Act(Act::Put(0, 700)), "done"),
             ("left", MAKE, "done"),
             ("left", DISCARD, "done"),
         ],
@@ -285,21 +288,21 @@ static LEFT: [Scene; 6] = [
         Nothing,
         Calls(b"kk", 0),
         &[
-            ("left.new", PUT, "done"),
+            ("left.nsf-draft", PUT, "done"),
             ("left", MAKE, "DraftExists"),
             ("left", DISCARD, "DraftExists"),
-            ("left.new", HOLD, "done"),
-            ("left.new", REMOVE, "done"),
-            ("left.new", Step::Act(Act::LinkTo("left")), "done"),
+            ("left.nsf-draft", HOLD, "done"),
+            ("left.nsf-draft", REMOVE, "done"),
+            ("left.nsf-draft", Step::Act(Act::LinkTo("left")), "done"),
             ("left", MAKE, "DraftExists"),
-            ("left.new", REMOVE, "done"),
+            ("left.nsf-draft", REMOVE, "done"),
         ],
     ),
     (
         Nothing,
         Plain,
         &[
-            ("left.new", Step::Act(Act::Put(0, 0)), "done"),
+            ("left.nsf-draft", Step::Act(Act::Put(0, 0)), "done"),
             ("left", MAKE, "done"),
             ("left", PUBLISH, "done"),
             ("left", REMOVE, "done"),
@@ -395,7 +398,7 @@ static SPOIL: [Scene; 4] = [
 const SINGLE: &[(&str, Step, &str)] = &[
     ("single", MAKE, "done"),
     ("single", Step::Call(Call::PublishOrDiscard), "NoSecondName"),
-    ("single.new", MISS, "done"),
+    ("single.nsf-draft", MISS, "done"),
     ("single", MISS, "done"),
 ];
 

@@ -361,7 +361,7 @@ const MIGRATE: &[&str] = &["nsf-store", "migrate", "harmed", "left"];
 
 const NO_FILE: Deed = Deed::Act("left", Act::Miss);
 
-const NO_DRAFT: Deed = Deed::Act("left.new", Act::Miss);
+const NO_DRAFT: Deed = Deed::Act("left.nsf-draft", Act::Miss);
 
 // Such a file isn't moved, and this is said. No other file is left.
 static HARMED: [Deed; 8] = [

@@ -424,7 +424,7 @@ nsf-store: commands refused: 3, the first in line 13
 // The copy has what was committed before it, and the store what was committed in the end.
 static COPIED: [Deed; 6] = [
     Deed::Feed(RUN, COPYING, 0, COPYING_ANSWERED, COPYING_SAID),
-    Deed::Act("copy.new", Act::Miss),
+    Deed::Act("copy.nsf-draft", Act::Miss),
     Deed::Call(&["nsf-store", "check", "copy"], 0, "sound\n", ""),
     Deed::Call(
         &["nsf-store", "dump", "copy"],

@@ -108,7 +108,7 @@ const JUNK: &[u8] = &[7; 2 * SECTOR_SIZE];
 static REFUSED: [(&str, &[u8], &str, &str); 5] = [
     ("text", b"not a store", "text", "BadLength 11"),
     ("junk", JUNK, "junk", "NotFormatted"),
-    ("left.new", b"half", "left", "DraftExists"),
+    ("left.nsf-draft", b"half", "left", "DraftExists"),
     ("text", b"", ".", "NotAFile"),
     ("text", b"", "none/store", "System 2"),
 ];

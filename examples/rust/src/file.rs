@@ -19,7 +19,7 @@ pub fn lock(file: &File) -> io::Result<()> {
 /// The name of the draft of the file of this name.
 pub fn draft_of(path: &Path) -> OsString {
     let mut draft = path.as_os_str().to_owned();
-    draft.push(".new");
+    draft.push(".nsf-draft");
     draft
 }
 

@@ -252,7 +252,7 @@ impl Store {
         Store::created(None, geometry, || ())
     }
 
-    /// Makes a store in a new file. Until it is made, the file has the name with `.new` added, its draft, so that a crash
+    /// Makes a store in a new file. Until it is made, the file has the name with `.nsf-draft` added, its draft, so that a crash
     /// meanwhile leaves no half of a store. A draft that such a crash left is removed: one that nobody has open, and that
     /// begins with a store or with zeros. Another file that has one of the two names is left alone (`AlreadyExists`), and
     /// so is a draft that another process makes now (`WouldBlock`). Where the call is refused, no other file is left.
