@@ -24,9 +24,9 @@ use store_file::{HostFile, OpenError, StoreFile, Stored, Troubled};
 /// A device in a file of the system.
 pub type HostDisk<H, A> = BlockDisk<FileBlocks<HostFile<H>, A>, A>;
 
-/// Makes a file of so many blocks of zeros, all of them safe, under the name `PATH.nsf-draft`: [`store_file::publish`] gives
-/// it its own, and [`store_file::discard`] removes it. The refusals are those of [`store_file::create`]. Where it is
-/// refused, no file is left, if that can be removed (no clause says so).
+/// Makes a file of so many blocks of zeros, all of them safe, under the name `PATH.nsf-draft`: [`store_file::publish`]
+/// gives it its own, and [`store_file::discard`] removes it. The refusals are those of [`store_file::create`]. Where it
+/// is refused, no file is left, if that can be removed (no clause says so).
 pub fn create<R: Files + AllocGlobal, A: Allocator + Copy>(
     rt: &R,
     alloc: A,
