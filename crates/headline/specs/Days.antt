@@ -29,8 +29,8 @@ use Rattle.headline.specs.Told.{acknowledged, told_over}
 abbrev pub Answer : Type 0 → Type 0
 Answer M = Result (Vec (Reply M) M) Error
 
--- The requests, with these replies, made records. The store is what the first of them, up to its last one, make of what
--- it was: so its entries are, marked ones too.
+-- There are records that tell what these replies tell, and that lead where they lead. The store is what the first of
+-- them, up to its last one, make of what it was: so its entries are, marked ones too.
 pub record IsMadeOf {M : Type 0} (geometry : GeometryValue) (old : AtRest) (requests : List Event)
     (replies : List (Reply M)) (new : AtRest) : Type 0 where
   pub made : List RecordValue

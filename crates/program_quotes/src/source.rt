@@ -243,6 +243,8 @@ impl<R: Read> Watched<R> {
         ensures counted { IfOk result (λ n. passed_in self.new
             ≡ min (passed_in self.old + length (take n buffer.new)) (2 ^ 64 - 1)) }
         ensures whole { OnOk result (is_cut_off self.new ≡ false) }
+        ensures short { OnOk result (is_too_long self.old ≡ false) }
+        ensures stays { is_too_long self.old ≡ true → self.new ≡ self.old }
     {
         if self.is_too_long() {
             return Err(io::Error::from(ErrorKind::InvalidData));
