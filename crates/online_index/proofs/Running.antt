@@ -1,12 +1,12 @@
 -- A run of the builder's steps, one step longer.
-use Rattle.std.proofs.Common.{Err, List, None, Ok, Option, Result, Some, [], ap, append_assoc, refl, subst, sym, ℕ, ◌+◌, ◌++◌, ◌<◌, ◌∙◌, ◌∷◌, ◌≡◌}
+use Rattle.std.proofs.Common.{Err, IsSome, List, length, None, Ok, Option, Result, Some, [], ap, append_assoc, refl, subst, sym, ℕ, ◌+◌, ◌++◌, ◌<◌, ◌∙◌, ◌∷◌, ◌≡◌}
 use Rattle.std.proofs.lemmas.List.{append-nil, length_push}
 use Rattle.std.specs.Result.{IsErr}
 use Rattle.record_values.specs.declared.error.Error.{Error}
 use Rattle.record_values.specs.declared.pair.Mark.{Mark}
 use Rattle.record_values.specs.declared.pair.Pair.{Pair}
-use Rattle.online_index.specs.Builds.{HasMade, HasMadeRun, IsCount, IsStop, attempt_of, checkpoint_due, due_of}
-use Rattle.online_index.specs.Builds.{listed, note_of, page_due, pair_due, reply_due, step_of, stop_of}
+use Rattle.online_index.specs.Builds.{AreOfBuilder, AreStepsDue, HasMade, HasMadeRun, IsCount, IsOfBuilder, IsStepDue, IsStop, attempt_of, attempts_after}
+use Rattle.online_index.specs.Builds.{checkpoint_due, due_of, listed, no_steps, note_of, notes_of_all, one_more, page_due, pair_due, reply_due, step_of, stop_of}
 use Rattle.online_index.specs.Standing.{StandsFor}
 use Rattle.online_index.specs.Value.{IndexValue}
 use Rattle.online_index.specs.declared.build.BuildStep.{BuildStep}
@@ -30,9 +30,15 @@ notes_more w u es e (one_step d rest is r) =
     ap (λ ns. notes_of w d ++ ns) (notes_more (after w d) u rest e r)
     ∙ sym (append_assoc (notes_of w d) (notes_over (after w d) rest) (notes_of u e))
 
+-- each of these is of the builder, and so is one more
+each_more : (es : List Step) (e : Step) → AreOfBuilder es → IsOfBuilder e → AreOfBuilder (es ++ e ∷ [])
+each_more [] e all here = (here, tt)
+each_more (d ∷ es) e all here = (all.0, each_more es e all.1 here)
+
 pub no_run : (v : IndexValue) (notes : List Note) (w : World) → StandsFor v w → HasMadeRun w 0 notes notes v
 no_run v notes w h = record {
   steps = [];
+  each = tt;
   end = w;
   run = no_step;
   count = refl;
@@ -41,10 +47,11 @@ no_run v notes w h = record {
 }
 
 module _ (w : World) (n : ℕ) (before now now' : List Note) (v v' : IndexValue) (h : HasMadeRun w n before now v) where
-  with_step : (e : Step) (notes : List Note) → IsEnabled h.end e × StandsFor v' (after h.end e) × (notes ≡ notes_of h.end e)
+  with_step : (e : Step) (notes : List Note) → IsOfBuilder e → IsEnabled h.end e × StandsFor v' (after h.end e) × (notes ≡ notes_of h.end e)
       → now' ≡ now ++ notes → HasMadeRun w (n + 1) before now' v'
-  with_step e notes made appended = record {
+  with_step e notes own made appended = record {
     steps = h.steps ++ e ∷ [];
+    each = each_more h.steps e h.each own;
     end = after h.end e;
     run = run_more w h.end h.steps e h.run made.0;
     count = ap (λ m. m + 1) h.count ∙ sym (length_push h.steps e);
@@ -57,6 +64,7 @@ module _ (w : World) (n : ℕ) (before now now' : List Note) (v v' : IndexValue)
   with_none : StandsFor v' h.end → now' ≡ now ++ [] → HasMadeRun w n before now' v'
   with_none stands appended = record {
     steps = h.steps;
+    each = h.each;
     end = h.end;
     run = h.run;
     count = h.count;
@@ -66,10 +74,10 @@ module _ (w : World) (n : ℕ) (before now now' : List Note) (v v' : IndexValue)
 
   pub more : (r : BuildStep) → HasMade h.end (step_of r) (listed (note_of r)) v' → now' ≡ now ++ listed (note_of r)
       → stop_of r ≡ None → HasMadeRun w (n + 1) before now' v'
-  more (reply.Placed p) made appended s = with_step (Attempt p) (listed (note_of (reply.Placed p))) made appended
-  more (reply.Rejected p) made appended s = with_step (Attempt p) [] made appended
-  more (reply.Noted p) made appended s = with_step Checkpoint (listed (note_of (reply.Noted p))) made appended
-  more reply.Done made appended s = with_step Finish (listed (note_of reply.Done)) made appended
+  more (reply.Placed p) made appended s = with_step (Attempt p) (listed (note_of (reply.Placed p))) tt made appended
+  more (reply.Rejected p) made appended s = with_step (Attempt p) [] tt made appended
+  more (reply.Noted p) made appended s = with_step Checkpoint (listed (note_of (reply.Noted p))) tt made appended
+  more reply.Done made appended s = with_step Finish (listed (note_of reply.Done)) tt made appended
   more (reply.WantsPage page) made appended s = absurd (cc)
   more reply.Idle made appended s = absurd (cc)
 
@@ -85,12 +93,71 @@ module _ (w : World) (n : ℕ) (before now now' : List Note) (v v' : IndexValue)
   pub unchanged : now' ≡ now → v' ≡ v → HasMadeRun w n before now' v'
   unchanged notes index = record {
     steps = h.steps;
+    each = h.each;
     end = h.end;
     run = h.run;
     count = h.count;
     stands = subst (λ x. StandsFor x h.end) (sym index) h.stands;
     noted = notes ∙ h.noted;
   }
+
+-- ---- the replies of a run
+-- these replies led from one value to another, and their notes were appended
+pub record HasReplied (v : IndexValue) (number : ℕ) (before now : List Note) (v' : IndexValue) : Type 0 where
+  pub replies : List BuildStep
+  pub due : AreStepsDue v replies v'
+  pub count : number ≡ length replies
+  pub noted : now ≡ before ++ notes_of_all replies
+
+pub none_replied : (v : IndexValue) (notes : List Note) → HasReplied v 0 notes notes v
+none_replied v notes = record { replies = []; due = no_steps; count = refl; noted = sym (append-nil notes) }
+
+notes_of_more : (rs : List BuildStep) (r : BuildStep) → notes_of_all (rs ++ r ∷ []) ≡ notes_of_all rs ++ listed (note_of r)
+notes_of_more [] r = append-nil (listed (note_of r))
+notes_of_more (s ∷ rs) r =
+    ap (λ ns. listed (note_of s) ++ ns) (notes_of_more rs r)
+    ∙ sym (append_assoc (listed (note_of s)) (notes_of_all rs) (listed (note_of r)))
+
+some_made : (r : BuildStep) → stop_of r ≡ None → IsSome (step_of r)
+some_made (reply.Placed p) s = refl
+some_made (reply.Rejected p) s = refl
+some_made (reply.Noted p) s = refl
+some_made reply.Done s = refl
+some_made (reply.WantsPage page) s = absurd (cc)
+some_made reply.Idle s = absurd (cc)
+
+module _ (v : IndexValue) (n : ℕ) (before now now' : List Note) (u v' : IndexValue) (h : HasReplied v n before now u) where
+  pub one_replied : (r : BuildStep) → r ≡ reply_due u u.life → ((w : World) → StandsFor u w → HasMade w (step_of r) (listed (note_of r)) v')
+      → v'.attempts ≡ attempts_after r u.attempts → now' ≡ now ++ listed (note_of r) → stop_of r ≡ None → HasReplied v (n + 1) before now' v'
+  one_replied r due made attempts appended goes_on = record {
+    replies = h.replies ++ r ∷ [];
+    due = one_more h.replies r h.due (record { due = due; step = some_made r goes_on; made = made; attempts = attempts });
+    count = ap (λ m. m + 1) h.count ∙ sym (length_push h.replies r);
+    noted = appended ∙ ap (λ ns. ns ++ listed (note_of r)) h.noted ∙ append_assoc before (notes_of_all h.replies) (listed (note_of r))
+        ∙ ap (λ ns. before ++ ns) (sym (notes_of_more h.replies r));
+  }
+
+  pub same_replied : v' ≡ u → now' ≡ now → HasReplied v n before now' v'
+  same_replied index notes = record {
+    replies = h.replies;
+    due = subst (λ x. AreStepsDue v h.replies x) (sym index) h.due;
+    count = h.count;
+    noted = notes ∙ h.noted;
+  }
+
+-- a reply that ends a run has no note
+pub none_noted : (r : BuildStep) (o : Stop) → stop_of r ≡ Some o → listed (note_of r) ≡ []
+none_noted (reply.Placed p) o s = absurd (cc)
+none_noted (reply.Rejected p) o s = absurd (cc)
+none_noted (reply.Noted p) o s = absurd (cc)
+none_noted reply.Done o s = absurd (cc)
+none_noted (reply.WantsPage page) o s = refl
+none_noted reply.Idle o s = refl
+
+pub replied : (v v' : IndexValue) (n most : ℕ) (before now : List Note) (result : Result Stop Error) → HasReplied v n before now v'
+    → IsCount result most n → ((replies : List BuildStep) × AreStepsDue v replies v' × IsCount result most (length replies)
+    × (now ≡ before ++ notes_of_all replies))
+replied v v' n most before now result h is = (h.replies, h.due, subst (λ m. IsCount result most m) h.count is, h.noted)
 
 -- ---- why a run ended
 abbrev count_by : Option Stop → ℕ → ℕ → Type 0

@@ -1,15 +1,16 @@
 -- What setting one entry leaves.
-use Rattle.std.proofs.Common.{Bool, None, Option, Some, ap, cond, false, is_some, sym, true, true≢false, ◌∙◌, ◌≡◌}
+use Rattle.std.proofs.Common.{Bool, None, Option, Some, ap, cond, false, is_some, subst, sym, true, true≢false, ◌∙◌, ◌≡◌}
 use Rattle.std.specs.FinMap.{get}
 use Rattle.std.specs.Ordering.{eq_by_cmp}
 use Rattle.record_values.specs.Entries.{Index}
 use Rattle.record_values.specs.Maps.{get-set_at, get-set_at_same, pair_exact, set_at, set_at-again, set_at-get}
 use Rattle.record_values.specs.Orders.{pair_cmp}
+use Rattle.record_values.specs.declared.error.Error.{Error}
 use Rattle.record_values.specs.declared.pair.Mark.{Mark}
 use Rattle.record_values.specs.declared.pair.Mark.TheVariants.{Marked}
 use Rattle.record_values.specs.declared.pair.Pair.{Pair}
-use Rattle.online_index.specs.Standing.{IsMissing}
-use Rattle.online_index.specs.Value.{IndexValue}
+use Rattle.online_index.specs.Standing.{IsMissing, marked_if}
+use Rattle.online_index.specs.Value.{IndexValue, IsRefusal}
 use Rattle.online_model.specs.World.{built}
 
 -- the index with this entry set
@@ -37,6 +38,12 @@ pub missing_before : (v u : IndexValue) (p : Pair) (o : Option Pair) → u ≡ w
 missing_before v u p None e n = n
 missing_before v u p (Some q) e n = unmarked (eq_by_cmp pair_cmp q p) (get v.entries q)
     (sym (get-set_at pair_exact v.entries p (Some Marked) q) ∙ (sym (ap (λ (x : IndexValue). get x.entries q) e) ∙ n))
+
+-- what is refused after a mark
+pub refused_after : (v u : IndexValue) (p : Pair) (old : Option Pair) (e : Error) → old ≡ Some p → u ≡ with_entry v p (Some Marked)
+    → IsRefusal u e → IsRefusal (record v { entries = marked_if v.entries old }) e
+refused_after v u p old e is marked h =
+    subst (λ o. IsRefusal (record v { entries = marked_if v.entries o }) e) (sym is) (subst (λ x. IsRefusal x e) marked h)
 
 -- a mark that is set and taken back leaves the index as it was
 pub set_back : (v u x y : IndexValue) (p : Pair) (o : Option Mark) → u ≡ with_entry v p (Some Marked) → x ≡ u

@@ -1,6 +1,6 @@
 -- What a step of the builder is, and a run of such steps.
 use Rattle.std.specs.FinMap.{get}
-use Rattle.std.specs.Prelude.{Err, List, Ok, Result, None, Option, Some, []}
+use Rattle.std.specs.Prelude.{Err, IsSome, List, Ok, Result, None, Option, Some, []}
 use Rattle.std.specs.Prelude.{length, min, nat_lt, if◌then◌else◌, ℕ, ◌+◌, ◌++◌, ◌<◌, ◌∷◌, ◌≡◌}
 use Rattle.record_values.specs.declared.limits.TheConstants.{ATTEMPTS_PER_CHECKPOINT}
 use Rattle.record_values.specs.declared.pair.Mark.{Mark}
@@ -91,15 +91,46 @@ attempts_after reply.Idle n = n
 abbrev pub IsPlacing : BuildStep → Type 0
 IsPlacing step = (p : Pair) × (step ≡ reply.Placed p)
 
+-- a step of the builder: the host makes none of these
+abbrev pub IsOfBuilder : Step → Type 0
+IsOfBuilder (Attempt p) = Unit {0}
+IsOfBuilder Checkpoint = Unit {0}
+IsOfBuilder Finish = Unit {0}
+IsOfBuilder e = ⊥
+
+-- each of these is
+abbrev pub AreOfBuilder : List Step → Type 0
+AreOfBuilder [] = Unit {0}
+AreOfBuilder (e ∷ es) = IsOfBuilder e × AreOfBuilder es
+
 -- This many steps of the builder: each was enabled, their notes were appended in order, and the index stands for the
 -- world after them.
 pub record HasMadeRun (w : World) (number : ℕ) (before now : List Note) (v : IndexValue) : Type 0 where
   pub steps : List Step
+  pub each : AreOfBuilder steps
   pub end : World
   pub run : Runs w steps end
   pub count : number ≡ length steps
   pub stands : StandsFor v end
   pub noted : now ≡ before ++ notes_over w steps
+
+-- a step of the builder, which was due
+pub record IsStepDue (v : IndexValue) (reply : BuildStep) (v' : IndexValue) : Type 0 where
+  pub due : reply ≡ reply_due v v.life
+  pub step : IsSome (step_of reply)
+  pub made : (w : World) → StandsFor v w → HasMade w (step_of reply) (listed (note_of reply)) v'
+  pub attempts : v'.attempts ≡ attempts_after reply v.attempts
+
+-- steps of the builder, one after another, each of which was due when it was made
+pub data AreStepsDue (v : IndexValue) : List BuildStep → IndexValue → Type 0 where
+  no_steps : AreStepsDue v [] v
+  one_more : {u v' : IndexValue} (replies : List BuildStep) (reply : BuildStep) → AreStepsDue v replies u
+      → IsStepDue u reply v' → AreStepsDue v (replies ++ reply ∷ []) v'
+
+-- the notes of these steps, in order
+abbrev pub notes_of_all : List BuildStep → List Note
+notes_of_all [] = []
+notes_of_all (reply ∷ replies) = listed (note_of reply) ++ notes_of_all replies
 
 -- a reply that ends a run of steps, and why
 abbrev pub stop_of : BuildStep → Option Stop

@@ -1,5 +1,5 @@
 -- A checkpoint in pieces.
-use Rattle.std.specs.Prelude.{List, None, Option, Some, [], length, ℕ, ◌+◌, ◌∷◌, ◌≡◌}
+use Rattle.std.specs.Prelude.{List, None, Option, Some, [], length, ℕ, ◌+◌, ◌<◌, ◌∷◌, ◌≡◌}
 use Rattle.btree_node.specs.Above.{IsLeastAbove}
 use Rattle.record_values.specs.Entries.{Index}
 use Rattle.record_values.specs.declared.pair.Mark.TheVariants.{Live, Marked}
@@ -18,10 +18,12 @@ IsPieceOf m start (EntryIs p (Some mark) ∷ ns) end = IsLeastAbove m start (Som
 IsPieceOf m start (EntryIs p None ∷ ns) end = ⊥
 IsPieceOf m start (LifeIs life ∷ ns) end = ⊥
 
--- a piece of a checkpoint: its notes were appended, and it ended where there was no further entry, or after this many
+-- a piece of a checkpoint: its notes were appended, and it ended after this many, or before, where there was no further
+-- entry
 abbrev pub IsSaved : Index → Option Pair → ℕ → List Note → Saved → Type 0
 IsSaved m start most notes (saved.GoOn end) = IsPieceOf m start notes end × (length notes ≡ most)
-IsSaved m start most notes saved.All = (end : Option Pair) × IsPieceOf m start notes end × IsLeastAbove m end None
+IsSaved m start most notes saved.All = (length notes < most)
+    × ((end : Option Pair) × IsPieceOf m start notes end × IsLeastAbove m end None)
 
 -- this many live entries lead from a start to this end, each the least one above the one before it
 pub data IsPastLive (m : Index) (start : Option Pair) : ℕ → Option Pair → Type 0 where
@@ -30,9 +32,10 @@ pub data IsPastLive (m : Index) (start : Option Pair) : ℕ → Option Pair → 
       → IsLeastAbove m middle (Some (p, Live))
       → IsPastLive m start (n + 1) (Some p)
 
--- where the next marked entry is: past live ones, or there is none, or the first ones are all live
+-- where the next marked entry is: past live ones, fewer than this many, or there is none, or the first ones are all live
 abbrev pub IsNextMarked : Index → Option Pair → ℕ → NextMarked → Type 0
-IsNextMarked m start most (next.Found p) = (n : ℕ) × (middle : Option Pair) × IsPastLive m start n middle
-    × IsLeastAbove m middle (Some (p, Marked))
+IsNextMarked m start most (next.Found p) = (n : ℕ) × (n < most) × (middle : Option Pair)
+    × IsPastLive m start n middle × IsLeastAbove m middle (Some (p, Marked))
 IsNextMarked m start most (next.GoOn end) = IsPastLive m start most end
-IsNextMarked m start most next.End = (n : ℕ) × (end : Option Pair) × IsPastLive m start n end × IsLeastAbove m end None
+IsNextMarked m start most next.End = (n : ℕ) × (n < most) × (end : Option Pair)
+    × IsPastLive m start n end × IsLeastAbove m end None

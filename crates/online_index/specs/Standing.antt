@@ -9,6 +9,8 @@ use Rattle.record_values.specs.declared.pair.Pair.{Pair}
 use Rattle.online_index.specs.Value.{IndexValue}
 use Rattle.online_model.specs.World.{Mark, Step, World, after}
 use Rattle.online_model.specs.declared.life.Life.TheVariants.{Complete}
+use Rattle.online_model.specs.declared.note.Note.{Note}
+use Rattle.online_model.specs.declared.note.Note.TheVariants.{EntryIs, LifeIs}
 use Rattle.sorted_scan.specs.Runs.{ScanRun, is_given, is_missed}
 use Rattle.sorted_scan.specs.Scans.{HasRun}
 
@@ -46,6 +48,12 @@ marked_if m (Some p) = set_at m p (Some Marked)
 abbrev pub IsMissing : Index → Option Pair → Type 0
 IsMissing m None = ⊥
 IsMissing m (Some p) = get m p ≡ None
+
+-- the note sets an entry that is not there
+abbrev pub IsAdding : Index → Note → Type 0
+IsAdding m (EntryIs p (Some mark)) = get m p ≡ None
+IsAdding m (EntryIs p None) = ⊥
+IsAdding m (LifeIs life) = ⊥
 
 -- the index is complete, or the builder is past this pair
 abbrev pub IsCovered : IndexValue → Pair → Type 0

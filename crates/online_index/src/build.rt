@@ -1,19 +1,21 @@
 //! The builder's calls.
 ghost use Rattle.std.specs.Prelude.{◌≡◌, ◌⊎◌, ◌+◌, ◌≤◌, ◌++◌, None, Some, if◌then◌else◌, List, IfErr, IfOk};
-ghost use Rattle.std.specs.Prelude.{IfSome, OnErr, OnOk, min, ℕ};
+ghost use Rattle.std.specs.Prelude.{IfSome, OnErr, OnOk, length, min, ℕ};
 ghost use Rattle.std.specs.FinMap as map;
 ghost use Rattle.record_values.specs.Maps.{set_at};
 ghost use Rattle.online_model.specs.World as step;
 ghost use Rattle.online_model.specs.World.{IsBuilding, World, after, built};
 ghost use Rattle.online_model.specs.declared.life.Life.TheVariants as life;
 ghost use Rattle.online_model.specs.declared.note.Note.{Note};
-ghost use Rattle.online_index.specs.Builds.{HasMade, HasMadeRun, IsCount, IsPlacing, IsStop, attempt_of};
-ghost use Rattle.online_index.specs.Builds.{attempts_after};
-ghost use Rattle.online_index.specs.Builds.{due_of, listed, note_of, reply_due, step_of, stop_of};
+ghost use Rattle.online_index.specs.Builds.{AreStepsDue, HasMade, HasMadeRun, IsCount, IsPlacing, IsStop};
+ghost use Rattle.online_index.specs.Builds.{attempt_of, attempts_after, due_of, listed, note_of, notes_of_all};
+ghost use Rattle.online_index.specs.Builds.{reply_due, step_of, stop_of};
+ghost use Rattle.online_index.specs.declared.build.BuildStep.{BuildStep};
 ghost use Rattle.online_index.specs.Pages.{IsPage};
 ghost use Rattle.online_index.specs.Standing.{StandsFor};
+ghost use Rattle.online_index.specs.Value.{IsRefusal};
 ghost use Rattle.sorted_scan.specs.Runs.{HandedOut, IsAtEnd, MayHandOut, ScanRun, with_step};
-ghost use Rattle.sorted_scan.specs.Scans.{HasRun, next_of};
+ghost use Rattle.sorted_scan.specs.Scans.{HasRun, next_of, page_from};
 
 use crate::entries::Entries;
 use crate::index::OnlineIndex;
@@ -123,6 +125,7 @@ impl<E: Entries, W: Walk> OnlineIndex<E, W> {
         requires page { IsPage page pairs.now }
         ensures stands { OnOk result ((w : World) → StandsFor self.old w
             → StandsFor self.new (after w (step.TakePage page pairs.now))) }
+        ensures wanted { OnOk result (self.new.scan.wanted ≡ page_from self.old.scan.pages (page + 1)) }
         ensures ok { OnOk result (self.new ≡ record self.old {
           scan = record self.old.scan { wanted = self.new.scan.wanted; waiting = self.new.scan.waiting };
         }) }
@@ -164,7 +167,7 @@ impl<E: Entries, W: Walk> OnlineIndex<E, W> {
         ensures placed { IfOk result (λ is_placed. attempt_of pair.now (map.get self.old.entries pair.now)
             ≡ (if is_placed then BuildStep.Placed pair.now else BuildStep.Rejected pair.now)) }
         ensures refused { IfErr result (λ e. (map.get self.old.entries pair.now ≡ None)
-            × ((e ≡ Error.IndexFull) ⊎ (e ≡ Error.NoMemory))) }
+            × IsRefusal self.old e) }
         ensures unchanged { OnErr result (self.new ≡ self.old) }
     {
         let is_there = self.get(pair).is_some();
@@ -199,7 +202,7 @@ impl<E: Entries, W: Walk> OnlineIndex<E, W> {
         ensures reply { IfOk result (λ reply. reply ≡ attempt_of pair (map.get self.old.entries pair)) }
         ensures attempts { OnOk result (self.new.attempts ≡ min (self.old.attempts + 1) ATTEMPTS_PER_CHECKPOINT) }
         ensures refused { IfErr result (λ e. (map.get self.old.entries pair ≡ None)
-            × ((e ≡ Error.IndexFull) ⊎ (e ≡ Error.NoMemory))) }
+            × IsRefusal self.old e) }
         ensures unchanged { OnErr result (self.new ≡ self.old) }
     {
         let is_placed = self.build_put(&pair)?;
@@ -229,7 +232,7 @@ impl<E: Entries, W: Walk> OnlineIndex<E, W> {
         ensures attempts { IfOk result (λ reply. self.new.attempts ≡ attempts_after reply self.old.attempts) }
         ensures idle { IfOk result (λ reply. step_of reply ≡ None → self.new ≡ self.old) }
         ensures refused { IfErr result (λ e. IsPlacing (reply_due self.old self.old.life)
-            × ((e ≡ Error.IndexFull) ⊎ (e ≡ Error.NoMemory))) }
+            × IsRefusal self.old e) }
         ensures unchanged { OnErr result (self.new ≡ self.old) }
     {
         let Life::Building { .. } = self.life else {
@@ -247,14 +250,15 @@ impl<E: Entries, W: Walk> OnlineIndex<E, W> {
         Ok(self.finish())
     }
 
-    // A step of the builder, and its note appended.
+    // A step of the builder, and its note appended. Memory for the note may be refused too.
     fn build_noted<B: Allocator>(&mut self, notes: &mut Vec<Note, B>) -> Result<BuildStep, Error>
         ensures made { IfOk result (λ reply. (w : World) → StandsFor self.old w
             → HasMade w (step_of reply) (listed (note_of reply)) self.new) }
         ensures notes { IfOk result (λ reply. notes.new.items ≡ notes.old.items ++ listed (note_of reply)) }
         ensures reply { IfOk result (λ reply. reply ≡ reply_due self.old self.old.life) }
+        ensures attempts { IfOk result (λ reply. self.new.attempts ≡ attempts_after reply self.old.attempts) }
         ensures idle { IfOk result (λ reply. step_of reply ≡ None → self.new ≡ self.old) }
-        ensures refused { IfErr result (λ e. (e ≡ Error.IndexFull) ⊎ (e ≡ Error.NoMemory)) }
+        ensures refused { IfErr result (λ e. IsRefusal self.old e) }
         ensures same_notes { OnErr result (notes.new.items ≡ notes.old.items) }
         ensures unchanged { OnErr result (self.new ≡ self.old) }
     {
@@ -267,8 +271,8 @@ impl<E: Entries, W: Walk> OnlineIndex<E, W> {
     }
 
     /// Steps of the builder, at most this many, one after another as long as no page is wanted and the index is not
-    /// complete; each as `build_step`. Their notes are appended in their order, also where a later step is refused:
-    /// they are to be logged then too.
+    /// complete; each is the one that is due, as `build_step` makes it. Their notes are appended in their order, also
+    /// where a later step is refused: the steps before it stay made, and their notes are to be logged then too.
     pub fn build_many<B: Allocator>(
         &mut self,
         most: u32,
@@ -276,8 +280,11 @@ impl<E: Entries, W: Walk> OnlineIndex<E, W> {
     ) -> Result<Stop, Error>
         ensures made { (w : World) → StandsFor self.old w → ((n : ℕ) × IsCount result most n
             × HasMadeRun w n notes.old.items notes.new.items self.new) }
+        ensures due { (replies : List BuildStep) × AreStepsDue self.old replies self.new
+            × IsCount result most (length replies)
+            × (notes.new.items ≡ notes.old.items ++ notes_of_all replies) }
         ensures stop { IfOk result (λ stop. IsStop stop self.new) }
-        ensures refused { IfErr result (λ e. (e ≡ Error.IndexFull) ⊎ (e ≡ Error.NoMemory)) }
+        ensures refused { IfErr result (λ e. IsRefusal self.new e) }
     {
         for made in 0..most {
             let step = self.build_noted(notes)?;

@@ -1,5 +1,5 @@
 //! Where the entries of an index are.
-ghost use Rattle.std.specs.Prelude.{◌≡◌, ◌⊎◌, ◌↔◌, None, IfErr, IsSome, IsTrue, OnErr, OnOk};
+ghost use Rattle.std.specs.Prelude.{◌≡◌, ◌≤◌, ◌-◌, ◌⊎◌, ◌↔◌, None, IfErr, IsSome, IsTrue, OnErr, OnOk};
 ghost use Rattle.std.specs.FinMap as map;
 ghost use Rattle.std.specs.Option.{option_copied};
 ghost use Rattle.record_values.specs.Maps.{set_at};
@@ -13,18 +13,24 @@ use std::alloc::Allocator;
 /// The entries of an index, wherever they are kept.
 pub trait Entries {
     ghost use Rattle.record_values.specs.Entries.{Index};
+    ghost use Rattle.std.specs.Prelude.{ℕ};
 
     ghost entries: { Self → Index };
+
+    /// How many entries there may be.
+    ghost capacity: { Self → ℕ };
 
     /// The mark of a pair, if it has an entry.
     fn get(&self, pair: &Pair) -> Option<Mark>
         ensures { result ≡ map.get (entries self.now) pair.now };
 
-    /// Sets the entry of a pair, or takes it out. It is refused only where an entry is to be added.
+    /// Sets the entry of a pair, or takes it out. It is refused only where an entry is to be added, as `IndexFull` only
+    /// where there are as many as there may be.
     fn set(&mut self, pair: &Pair, mark: Option<Mark>) -> Result<(), Error>
         ensures ok { OnOk result (entries self.new ≡ set_at (entries self.old) pair.now mark) }
         ensures refused { IfErr result (λ e. IsSome mark × (map.get (entries self.old) pair.now ≡ None)
-            × ((e ≡ Error.IndexFull) ⊎ (e ≡ Error.NoMemory))) }
+            × ((e ≡ Error.IndexFull) × (capacity self.old ≤ map.len (entries self.old)) ⊎ (e ≡ Error.NoMemory))) }
+        ensures same_capacity { capacity self.new ≡ capacity self.old }
         ensures unchanged { OnErr result (entries self.new ≡ entries self.old) };
 
     /// The least entry whose pair comes after the given one, or the least of all.
@@ -46,6 +52,8 @@ pub trait Entries {
 
 impl<A: Allocator + Clone> Entries for MarkedIndex<A> {
     ghost entries = { λ index. index.entries };
+
+    ghost capacity = { λ index. index.capacity - index.pledged };
 
     fn get(&self, pair: &Pair) -> Option<Mark> {
         self.get(pair)

@@ -10,8 +10,8 @@ ghost use Rattle.online_model.specs.Keeping.{IsCreated};
 ghost use Rattle.online_model.specs.Logs.{cells_of, set_by};
 ghost use Rattle.online_model.specs.World as step;
 ghost use Rattle.online_model.specs.World.{CanClean, IsPassed, World, after};
-ghost use Rattle.online_index.specs.Standing.{IsMissing, StandsFor, after_all, marked_if, marks_of};
-ghost use Rattle.online_index.specs.Value.{held_by};
+ghost use Rattle.online_index.specs.Standing.{IsAdding, IsMissing, StandsFor, after_all, marked_if, marks_of};
+ghost use Rattle.online_index.specs.Value.{IsRefusal, created, held_by, reopened};
 
 use crate::entries::Entries;
 use crate::walk::Walk;
@@ -69,6 +69,7 @@ impl<E: Entries, W: Walk> Model for OnlineIndex<E, W> {
 
     ghost view = { λ x. record {
       entries = E.entries x.entries;
+      capacity = E.capacity x.entries;
       life = x.life;
       scan = W.scan x.walk;
       attempts = x.attempts;
@@ -80,7 +81,8 @@ impl<E: Entries, W: Walk> OnlineIndex<E, W> {
     /// is to be built.
     pub fn create(entries: E, mut walk: W, pages: u32) -> Self
         requires { E.entries entries ≡ map.empty }
-        ensures { (w : World) → IsCreated w → w.pages ≡ pages → StandsFor result w }
+        ensures stands { (w : World) → IsCreated w → w.pages ≡ pages → StandsFor result w }
+        ensures new { result ≡ created (E.capacity entries) pages }
     {
         walk.begin(None, pages);
         OnlineIndex {
@@ -99,8 +101,7 @@ impl<E: Entries, W: Walk> OnlineIndex<E, W> {
         ensures ok { OnOk result (self.new ≡ record self.old {
           entries = set_at self.old.entries pair.now (Some Mark.Marked);
         }) }
-        ensures refused { IfErr result (λ e. (map.get self.old.entries pair.now ≡ None)
-            × ((e ≡ Error.IndexFull) ⊎ (e ≡ Error.NoMemory))) }
+        ensures refused { IfErr result (λ e. (map.get self.old.entries pair.now ≡ None) × IsRefusal self.old e) }
         ensures unchanged { OnErr result (self.new ≡ self.old) }
     {
         self.entries.set(pair, Some(Mark::Marked))
@@ -114,22 +115,23 @@ impl<E: Entries, W: Walk> OnlineIndex<E, W> {
         ensures ok { OnOk result (self.new ≡ record self.old {
           entries = set_at self.old.entries pair.now (Some Mark.Live);
         }) }
-        ensures refused { IfErr result (λ e. (map.get self.old.entries pair.now ≡ None)
-            × ((e ≡ Error.IndexFull) ⊎ (e ≡ Error.NoMemory))) }
+        ensures refused { IfErr result (λ e. (map.get self.old.entries pair.now ≡ None) × IsRefusal self.old e) }
         ensures unchanged { OnErr result (self.new ≡ self.old) }
     {
         self.entries.set(pair, Some(Mark::Live))
     }
 
     // Marks the pair, if there is one.
-    fn mark_if(&mut self, pair: Option<Pair>) -> Result<(), Error>
-        ensures ok { OnOk result (self.new ≡ record self.old { entries = marked_if self.old.entries pair }) }
-        ensures refused { IfErr result (λ e. IsMissing self.old.entries pair
-            × ((e ≡ Error.IndexFull) ⊎ (e ≡ Error.NoMemory))) }
+    fn mark_if(&mut self, pair: Option<&Pair>) -> Result<(), Error>
+        ensures ok { OnOk result (self.new ≡ record self.old {
+          entries = marked_if self.old.entries (option_copied pair.entry);
+        }) }
+        ensures refused { IfErr result (λ e. IsMissing self.old.entries (option_copied pair.entry)
+            × IsRefusal self.old e) }
         ensures unchanged { OnErr result (self.new ≡ self.old) }
     {
         match pair {
-            Some(pair) => self.mark(&pair),
+            Some(pair) => self.mark(pair),
             None => Ok(()),
         }
     }
@@ -149,23 +151,26 @@ impl<E: Entries, W: Walk> OnlineIndex<E, W> {
     /// is one. Where it is refused, neither is marked. Once it is not refused, `mark` and `put` of these pairs are not
     /// refused as long as `clean` takes neither out; so the change, and taking it back, need no memory. To be logged as
     /// for `mark`, the old pair first.
-    pub fn prepare(&mut self, old: Option<Pair>, new: Option<Pair>) -> Result<(), Error>
+    pub fn prepare(&mut self, old: Option<&Pair>, new: Option<&Pair>) -> Result<(), Error>
         ensures stands { OnOk result ((w : World) → StandsFor self.old w
-            → StandsFor self.new (after_all w (marks_of old new))) }
+            → StandsFor self.new (after_all w (marks_of (option_copied old.entry) (option_copied new.entry)))) }
         ensures ok { OnOk result (self.new ≡ record self.old {
-          entries = marked_if (marked_if self.old.entries old) new;
+          entries = marked_if (marked_if self.old.entries (option_copied old.entry)) (option_copied new.entry);
         }) }
-        ensures refused { IfErr result (λ e. (IsMissing self.old.entries old ⊎ IsMissing self.old.entries new)
-            × ((e ≡ Error.IndexFull) ⊎ (e ≡ Error.NoMemory))) }
+        ensures refused { IfErr result (λ e. (IsMissing self.old.entries (option_copied old.entry)
+            ⊎ IsMissing self.old.entries (option_copied new.entry))
+            × (IsRefusal self.old e ⊎ IsRefusal (record self.old {
+              entries = marked_if self.old.entries (option_copied old.entry);
+            }) e)) }
         ensures unchanged { OnErr result (self.new ≡ self.old) }
     {
         let Some(pair) = old else {
             return self.mark_if(new);
         };
-        let before = self.get(&pair);
-        self.mark(&pair)?;
+        let before = self.get(pair);
+        self.mark(pair)?;
         if let Err(error) = self.mark_if(new) {
-            self.set_back(&pair, before);
+            self.set_back(pair, before);
             return Err(error);
         }
         Ok(())
@@ -176,6 +181,7 @@ impl<E: Entries, W: Walk> OnlineIndex<E, W> {
     pub fn clean(&mut self, pair: &Pair) -> bool
         ensures cleaned { IsTrue result → (w : World) → StandsFor self.old w
             → CanClean w pair.now × StandsFor self.new (after w (step.Clean pair.now)) }
+        ensures ok { IsTrue result → self.new ≡ record self.old { entries = set_at self.old.entries pair.now None } }
         ensures exactly { IsTrue result ↔ ((map.get self.old.entries pair.now ≡ Some Mark.Marked)
             × IsPassed self.old.life pair.now) }
         ensures unchanged { result ≡ false → self.new ≡ self.old }
@@ -190,10 +196,13 @@ impl<E: Entries, W: Walk> OnlineIndex<E, W> {
     }
 
     /// Sets what a note of the host's log says. The notes are redone in the order of the log. To redo a note again
-    /// changes nothing.
+    /// changes nothing. It is refused only where an entry is to be added.
     pub fn redo(&mut self, note: &Note) -> Result<(), Error>
         ensures ok { OnOk result (held_by self.new ≡ set_by (held_by self.old) note.now) }
-        ensures refused { IfErr result (λ e. (e ≡ Error.IndexFull) ⊎ (e ≡ Error.NoMemory)) }
+        ensures same_capacity { self.new.capacity ≡ self.old.capacity }
+        ensures same_scan { self.new.scan ≡ self.old.scan }
+        ensures same_attempts { self.new.attempts ≡ self.old.attempts }
+        ensures refused { IfErr result (λ e. IsAdding self.old.entries note.now × IsRefusal self.old e) }
         ensures unchanged { OnErr result (self.new ≡ self.old) }
     {
         match note {
@@ -205,11 +214,12 @@ impl<E: Entries, W: Walk> OnlineIndex<E, W> {
         }
     }
 
-    /// After a stop, once all notes are redone: the builder goes on above the checkpoint. It takes no memory.
+    /// After a stop, once all notes are redone: the builder goes on above the checkpoint, and reads as many pages as it
+    /// was to read when the index was created. It takes no memory.
     pub fn reopen(&mut self, pages: u32)
         ensures stands { (w : World) → cells_of w ≡ held_by self.old → w.pages ≡ pages
             → StandsFor self.new (after w step.Reopen) }
-        ensures held { held_by self.new ≡ held_by self.old }
+        ensures new { self.new ≡ reopened self.old pages }
     {
         let highest = highest_of(&self.life);
         self.walk.begin(highest, pages);

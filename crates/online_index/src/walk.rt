@@ -1,13 +1,14 @@
 //! Where the pairs wait that were read for the builder.
 ghost use Rattle.std.specs.List.Sorted.{IsStrictlyIncreasing};
-ghost use Rattle.std.specs.Prelude.{◌≡◌, ◌≤◌, ◌↔◌, map, Some, None, OnOk, IfErr, IfNone, IfSome, IsTrue, OnErr};
+ghost use Rattle.std.specs.Prelude.{◌≡◌, ◌+◌, ◌≤◌, ◌↔◌, map, Some, None, OnOk, IfErr, IfNone, IfSome, IsTrue, OnErr};
 ghost use Rattle.sorted_scan.specs.Runs.{HandedOut, IsAtEnd, MayHandOut, ScanRun, Took, with_step};
-ghost use Rattle.sorted_scan.specs.Scans.{HasRun, begun, begun_run, next_of};
+ghost use Rattle.sorted_scan.specs.Scans.{HasRun, begun, begun_run, next_of, page_from};
 ghost use Rattle.online_index.specs.Pages.{IsPage};
 
 use record_values::{Error, Pair, SLOTS_PER_PAGE};
 use sorted_scan::Scan;
 use std::alloc::Allocator;
+use std::marker::Model;
 
 /// Whether the slots of the pairs rise.
 fn rises(pairs: &[Pair]) -> bool
@@ -54,6 +55,7 @@ pub trait Walk {
         requires page { IsPage page pairs.now }
         ensures run { OnOk result ((r : ScanRun) → HasRun (scan self.old) r
             → HasRun (scan self.new) (with_step r (Took page pairs.now))) }
+        ensures wanted { OnOk result ((scan self.new).wanted ≡ page_from (scan self.old).pages (page + 1)) }
         ensures place { OnOk result (scan self.new ≡ record (scan self.old) {
           wanted = (scan self.new).wanted;
           waiting = (scan self.new).waiting;
@@ -91,9 +93,20 @@ pub struct PageScan<A: Allocator> {
     scan: Scan<A>,
 }
 
+impl<A: Allocator> Model for PageScan<A> {
+    ghost use Rattle.sorted_scan.specs.Scans.{ScanValue};
+
+    ghost Value = { ScanValue };
+
+    ghost view = { λ s. s.scan };
+}
+
 impl<A: Allocator + Copy> PageScan<A> {
-    /// A scan that has begun. It takes no memory.
-    pub fn new(alloc: A) -> Self {
+    /// A scan of no pages, until it begins. It takes no memory.
+    pub fn new(alloc: A) -> Self
+        ensures made { result ≡ begun None 0 }
+        ensures run { HasRun result (begun_run None 0) }
+    {
         PageScan {
             alloc,
             scan: Scan::new(alloc, None, 0),
@@ -102,7 +115,7 @@ impl<A: Allocator + Copy> PageScan<A> {
 }
 
 impl<A: Allocator + Copy> Walk for PageScan<A> {
-    ghost scan = { λ s. s.scan };
+    ghost scan = { λ s. s };
 
     fn begin(&mut self, above: Option<Pair>, pages: u32) {
         self.scan = Scan::new(self.alloc, above, pages);
