@@ -74,4 +74,5 @@ abbrev pub coded_index : Coded IndexValue
 coded_index = code_by (Index × (ℕ × (Life × (ScanValue × ℕ))))
     (coded× (map.code coded_pair coded_mark) (coded× coded_ℕ (coded× coded_life (coded× coded_scan coded_ℕ))))
     (λ v. (v.entries, (v.capacity, (v.life, (v.scan, v.attempts)))))
-    (λ p. record { entries = p.0; capacity = p.1.0; life = p.1.1.0; scan = p.1.1.1.0; attempts = p.1.1.1.1 }) (λ _. refl)
+    (λ p. record { entries = p.0; capacity = p.1.0; life = p.1.1.0; scan = p.1.1.1.0; attempts = p.1.1.1.1 })
+    (λ _. refl)

@@ -1,7 +1,8 @@
 use Rattle.std.proofs.Common.{None, Ok, ap, arith, rules, sym, ◌++◌, ◌<◌, ◌∙◌, ◌≡◌}
 use Rattle.std.proofs.lemmas.List.{append-nil}
 use Rattle.std.specs.Result.{IsErr}
-use Rattle.online_index.proofs.Running.{err_count, is_count, more, no_run, none_made, none_noted, none_replied, one_replied, replied, same, same_replied, unchanged}
+use Rattle.online_index.proofs.Running.{err_count, is_count, more, no_run, none_made, none_noted, none_replied, one_replied}
+use Rattle.online_index.proofs.Running.{replied, same, same_replied, unchanged}
 use Rattle.online_index.proofs.index.OnlineIndex.build_many.Goals as goal
 use Rattle.online_index.specs.Builds.{stop_of}
 use Rattle.online_index.specs.declared.build.Stop.TheVariants.{Most}
@@ -58,8 +59,8 @@ pub loop-made-preserved : goal.loop-made-preserved
 loop-made-preserved g c =
     let goes_on : stop_of c.in_ok-step.step ≡ None = search rules in (
       λ w h.
-      let run = c.loop-made.invariant.0 w h in
-      more w c.loop-made.made c.args.notes.now.items c.loop-made.notes.items c.build_noted.new.notes.items c.loop-made.self
+          let run = c.loop-made.invariant.0 w h in
+          more w c.loop-made.made c.args.notes.now.items c.loop-made.notes.items c.build_noted.new.notes.items c.loop-made.self
           c.build_noted.new.self run c.in_ok-step.step (c.in_ok-step.ensures.made run.end run.stands) c.in_ok-step.ensures.notes goes_on,
       one_replied c.args.self.now c.loop-made.made c.args.notes.now.items c.loop-made.notes.items c.build_noted.new.notes.items
           c.loop-made.self c.build_noted.new.self c.loop-made.invariant.1 c.in_ok-step.step c.in_ok-step.ensures.reply
