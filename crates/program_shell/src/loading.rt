@@ -54,22 +54,6 @@ fn why_not<D: Troubled>(error: RowsError, device: &D) -> NotLoaded {
 // The word that stands for the program's own input.
 const INPUT: &str = "-";
 
-// What rows are read from.
-#[derive(Drop)]
-enum Source<'a, I> {
-    Input(&'a mut I),
-    Text(File),
-}
-
-impl<I: Read> Read for Source<'_, I> {
-    fn read(&mut self, buffer: &mut [u8]) -> io::Result<usize> {
-        match self {
-            Source::Input(input) => input.read(buffer),
-            Source::Text(file) => file.read(buffer),
-        }
-    }
-}
-
 // What is shown of how far a load is.
 #[derive(Clone, Copy)]
 struct Progress {
@@ -211,18 +195,11 @@ fn names_in(asked: &LoadArguments) -> Option<ColumnNames<'_>> {
     Some(ColumnNames { key, body })
 }
 
-// What has the rows that are to be loaded, and how many bytes it has, where that is known.
-fn open_text<'a, R: Files<File = File>, I: Read>(
-    rt: &R,
-    path: &str,
-    input: &'a mut I,
-) -> io::Result<(Source<'a, I>, Option<u64>)> {
-    if path == INPUT {
-        return Ok((Source::Input(input), None));
-    }
+// The file of the rows that are to be loaded, and how many bytes it has.
+fn open_text<R: Files<File = File>>(rt: &R, path: &str) -> io::Result<(File, u64)> {
     let file = fs::open(rt, path)?;
     let length = file.metadata()?.len();
-    Ok((Source::Text(file), Some(length)))
+    Ok((file, length))
 }
 
 // The rows of the text.
@@ -257,24 +234,6 @@ fn tell_columns<E: Write>(asked: &LoadArguments, errors: &mut E) {
     );
 }
 
-// The rows that are to be loaded, and what is shown of that.
-fn open_rows<'a, R: Files<File = File> + AllocGlobal, I: Read>(
-    rt: &R,
-    asked: &LoadArguments,
-    input: &'a mut I,
-) -> Result<(RowReader<Source<'a, I>>, Progress), TextError> {
-    let (source, length) = match open_text(rt, asked.rows.as_str(), input) {
-        Ok(opened) => opened,
-        Err(error) => return Err(TextError::Io(error)),
-    };
-    let rows = rows_of(rt.alloc(), source, asked)?;
-    let progress = Progress {
-        is_shown: asked.shows_progress,
-        length,
-    };
-    Ok((rows, progress))
-}
-
 // Loads the rows that are left into the store in the file.
 fn load_into<R: Files<File = File> + Clock + AllocGlobal, S: Read + Drop, W: Write, E: Write>(
     rt: &R,
@@ -293,6 +252,23 @@ fn load_into<R: Files<File = File> + Clock + AllocGlobal, S: Read + Drop, W: Wri
     }
 }
 
+// Loads the rows of the text, of so many bytes, where that is known, into the store in the file.
+fn load_text<R: Files<File = File> + Clock + AllocGlobal, S: Read + Drop, W: Write, E: Write>(
+    rt: &R,
+    path: &str,
+    asked: &LoadArguments,
+    (source, length): (S, Option<u64>),
+    output: &mut W,
+    errors: &mut E,
+) -> Result<Ended, NotLoaded> {
+    let mut rows = rows_of(rt.alloc(), source, asked)?;
+    let progress = Progress {
+        is_shown: asked.shows_progress,
+        length,
+    };
+    load_into(rt, path, &mut rows, (asked, progress), output, errors)
+}
+
 /// Loads rows into the store in the file at the path, in transactions of 64 rows, and prints how many are safe and how
 /// many records have no row. The error stream says which columns are taken; why a record has no row, by line; and where
 /// no more is loaded, behind which line. The rows' path may be `-`, for the input.
@@ -306,6 +282,12 @@ pub(crate) fn load_file<R: Files<File = File> + Clock + AllocGlobal, I: Read, W:
     output: &mut W,
     errors: &mut E,
 ) -> Result<Ended, NotLoaded> {
-    let (mut rows, progress) = open_rows(rt, asked, input)?;
-    load_into(rt, path, &mut rows, (asked, progress), output, errors)
+    let rows = asked.rows.as_str();
+    if rows == INPUT {
+        return load_text(rt, path, asked, (input, None), output, errors);
+    }
+    match open_text(rt, rows) {
+        Ok((file, length)) => load_text(rt, path, asked, (file, Some(length)), output, errors),
+        Err(error) => Err(NotLoaded::from(TextError::Io(error))),
+    }
 }
