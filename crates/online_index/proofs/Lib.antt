@@ -1,3 +1,4 @@
+mod Checkpoints
 mod PieceLemmas
 mod Redoing
 mod Running

@@ -6,9 +6,8 @@ use Rattle.std.specs.Result.{IsErr}
 use Rattle.record_values.specs.declared.error.Error.{Error}
 use Rattle.record_values.specs.declared.pair.Mark.{Mark}
 use Rattle.record_values.specs.declared.pair.Pair.{Pair}
-use Rattle.online_index.specs.Builds.{AreOfBuilder, AreStepsDue, HasMade, HasMadeRun, IsCount, IsOfBuilder, IsStepDue, IsStop, attempt_of, attempts_after}
-use Rattle.online_index.specs.Builds.{checkpoint_due, due_of, listed, no_steps, note_of, notes_of_all, one_more, page_due}
-use Rattle.online_index.specs.Builds.{pair_due, reply_due, step_of, stop_of}
+use Rattle.online_index.specs.Builds.{AreOfBuilder, AreStepsDue, HasMade, HasMadeRun, IsCount, IsOfBuilder, IsStop, attempt_of, attempts_after}
+use Rattle.online_index.specs.Builds.{checkpoint_due, due_of, listed, no_steps, note_of, notes_of_all, one_more, page_due, pair_due, reply_due, step_of, stop_of}
 use Rattle.online_index.specs.Standing.{StandsFor}
 use Rattle.online_index.specs.Value.{IndexValue}
 use Rattle.online_index.specs.declared.build.BuildStep.{BuildStep}

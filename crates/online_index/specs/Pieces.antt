@@ -1,5 +1,5 @@
 -- A checkpoint in pieces.
-use Rattle.std.specs.Prelude.{List, None, Option, Some, [], length, ℕ, ◌+◌, ◌<◌, ◌∷◌, ◌≡◌}
+use Rattle.std.specs.Prelude.{List, None, Option, Some, [], length, ℕ, ◌+◌, ◌++◌, ◌<◌, ◌∷◌, ◌≡◌}
 use Rattle.btree_node.specs.Above.{IsLeastAbove}
 use Rattle.record_values.specs.Entries.{Index}
 use Rattle.record_values.specs.declared.pair.Mark.TheVariants.{Live, Marked}
@@ -8,6 +8,7 @@ use Rattle.online_index.specs.declared.pieces.NextMarked.{NextMarked}
 use Rattle.online_index.specs.declared.pieces.NextMarked.TheVariants as next
 use Rattle.online_index.specs.declared.pieces.Saved.{Saved}
 use Rattle.online_index.specs.declared.pieces.Saved.TheVariants as saved
+use Rattle.online_model.specs.World.{Runs, Step, World}
 use Rattle.online_model.specs.declared.note.Note.{Note}
 use Rattle.online_model.specs.declared.note.Note.TheVariants.{EntryIs, LifeIs}
 
@@ -24,6 +25,18 @@ abbrev pub IsSaved : Index → Option Pair → ℕ → List Note → Saved → T
 IsSaved m start most notes (saved.GoOn end) = IsPieceOf m start notes end × (length notes ≡ most)
 IsSaved m start most notes saved.All = (length notes < most)
     × ((end : Option Pair) × IsPieceOf m start notes end × IsLeastAbove m end None)
+
+-- A checkpoint that was taken in pieces while these steps led to the last world: after any steps a piece of the entries
+-- as they were then, above the start; after further steps the next piece, above the end of that one; and so on, until
+-- no entry was left.
+pub data IsSavedDuring (last : World) : Option Pair → World → List Step → List Note → Type 0 where
+  last_piece : {start : Option Pair} {w : World} (moment : World) (most : ℕ) (before later : List Step)
+      (piece : List Note) → Runs w before moment → IsSaved moment.entries start most piece saved.All
+      → Runs moment later last → IsSavedDuring last start w (before ++ later) piece
+  one_piece : {start : Option Pair} {w : World} (moment : World) (end : Option Pair) (most : ℕ)
+      (before later : List Step) (piece rest : List Note) → Runs w before moment
+      → IsSaved moment.entries start most piece (saved.GoOn end) → IsSavedDuring last end moment later rest
+      → IsSavedDuring last start w (before ++ later) (piece ++ rest)
 
 -- this many live entries lead from a start to this end, each the least one above the one before it
 pub data IsPastLive (m : Index) (start : Option Pair) : ℕ → Option Pair → Type 0 where

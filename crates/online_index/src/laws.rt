@@ -1,15 +1,19 @@
 //! What the theorem of `online_model` says of an index.
-ghost use Rattle.std.specs.Prelude.{◌≡◌, ◌↔◌, ◌++◌, None, Some, List, ℕ, false};
+ghost use Rattle.std.specs.Prelude.{◌≡◌, ◌↔◌, ◌++◌, ◌∷◌, None, Some, List, ℕ, false};
 ghost use Rattle.std.specs.FinMap.{empty, get};
 ghost use Rattle.record_values.specs.Values.{Place};
 ghost use Rattle.record_values.specs.declared.pair.Mark.{Mark};
 ghost use Rattle.record_values.specs.declared.pair.Pair.{Pair};
+ghost use Rattle.online_model.specs.declared.life.Life.{Life};
 ghost use Rattle.online_model.specs.declared.life.Life.TheVariants.{Building, Complete};
+ghost use Rattle.online_model.specs.declared.note.Note.{Note};
+ghost use Rattle.online_model.specs.declared.note.Note.TheVariants.{LifeIs};
 ghost use Rattle.online_model.specs.Keeping.{IsCreated, IsQuiet};
-ghost use Rattle.online_model.specs.Logs.{Cells, IsCopiedBetween, notes_over, redone};
-ghost use Rattle.online_model.specs.World.{IsOfRow, Runs, Step, World, pair_at};
+ghost use Rattle.online_model.specs.Logs.{Cells, HeldAtSomeMoment, IsCopiedBetween, notes_over, redone};
+ghost use Rattle.online_model.specs.World.{IsOfRow, Reopen, Runs, Step, World, after, pair_at};
+ghost use Rattle.online_index.specs.Pieces.{IsSavedDuring};
 ghost use Rattle.online_index.specs.Standing.{IsCovered, StandsFor};
-ghost use Rattle.online_index.specs.Value.{IndexValue, held_by};
+ghost use Rattle.online_index.specs.Value.{IndexValue, held_by, reopened};
 
 use online_model::{any_stop, every_order};
 
@@ -31,6 +35,8 @@ pub fn every_index()
 
 /// A law: an index just created, over which the notes of any steps were redone in order, holds what the index held that
 /// made these steps. So does a copy of it, taken during some of the steps, over which the notes of these were redone.
+/// And so does an index just created over which a checkpoint is redone and then these notes: the life as it was at some
+/// moment of these steps, and the pieces that `save` made, each at a moment of its own.
 pub fn every_redo()
     ensures created { (begun w : World) (steps : List Step) (v : IndexValue) → IsCreated begun → Runs begun steps w
         → StandsFor v w
@@ -38,6 +44,27 @@ pub fn every_redo()
     ensures copied { (begun w : World) (steps : List Step) (v : IndexValue) → Runs begun steps w → StandsFor v w
         → (copied : Cells) → IsCopiedBetween begun steps w copied
         → redone copied (notes_over begun steps) ≡ held_by v }
+    ensures saved { (begun w : World) (steps : List Step) (v : IndexValue) (life : Life) (pieces : List Note)
+        → HeldAtSomeMoment begun steps w (λ m. life ≡ m.life) → IsSavedDuring w None begun steps pieces
+        → StandsFor v w
+        → redone (record { entries = empty; life = Building None })
+            (LifeIs life ∷ (pieces ++ notes_over begun steps)) ≡ held_by v }
+{
+    any_stop();
+}
+
+/// A law: an index that holds what these notes give, be they all notes since it was created or those of a checkpoint and
+/// of the steps since that began, stands, once it is reopened, for the world after these steps and `Reopen`. So what
+/// `every_index` says, it says of every order of steps that goes on from there.
+pub fn every_reopening()
+    ensures created { (begun w : World) (steps : List Step) (v : IndexValue) → IsCreated begun → Runs begun steps w
+        → held_by v ≡ redone (record { entries = empty; life = Building None }) (notes_over begun steps)
+        → StandsFor (reopened v w.pages) (after w Reopen) }
+    ensures saved { (begun w : World) (steps : List Step) (v : IndexValue) (life : Life) (pieces : List Note)
+        → HeldAtSomeMoment begun steps w (λ m. life ≡ m.life) → IsSavedDuring w None begun steps pieces
+        → held_by v ≡ redone (record { entries = empty; life = Building None })
+            (LifeIs life ∷ (pieces ++ notes_over begun steps))
+        → StandsFor (reopened v w.pages) (after w Reopen) }
 {
     any_stop();
 }

@@ -7,7 +7,9 @@
 //!
 //! Proved, of every call, for every world of `online_model` that the index stands for (`StandsFor`): the call makes one
 //! step of that machine, which is enabled where the index alone decides it, or nothing changes. So what `online_model`
-//! says of every order of steps, it says of this index (`every_index`).
+//! says of every order of steps, it says of this index (`every_index`). After a stop the notes of the host's log give the
+//! index again, alone or over a checkpoint that was saved in pieces (`every_redo`), and reopened it goes on
+//! (`every_reopening`).
 #![tactic(auto)]
 
 mod build;
@@ -20,6 +22,6 @@ mod walk;
 pub use build::{BuildStep, Stop};
 pub use entries::Entries;
 pub use index::{Counts, OnlineIndex};
-pub use laws::{every_index, every_redo};
+pub use laws::{every_index, every_redo, every_reopening};
 pub use pieces::{NextMarked, Saved};
 pub use walk::{PageScan, Walk, is_page};
