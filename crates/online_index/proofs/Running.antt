@@ -1,13 +1,14 @@
 -- A run of the builder's steps, one step longer.
-use Rattle.std.proofs.Common.{Err, IsSome, List, length, None, Ok, Option, Result, Some, [], ap, append_assoc, refl, subst}
-use Rattle.std.proofs.Common.{sym, ℕ, ◌+◌, ◌++◌, ◌<◌, ◌∙◌, ◌∷◌, ◌≡◌}
+use Rattle.std.proofs.Common.{Err, IsSome, List, None, Ok, Option, Result, Some, [], ap, append_assoc, length, refl, subst, sym}
+use Rattle.std.proofs.Common.{ℕ, ◌+◌, ◌++◌, ◌<◌, ◌∙◌, ◌∷◌, ◌≡◌}
 use Rattle.std.proofs.lemmas.List.{append-nil, length_push}
 use Rattle.std.specs.Result.{IsErr}
 use Rattle.record_values.specs.declared.error.Error.{Error}
 use Rattle.record_values.specs.declared.pair.Mark.{Mark}
 use Rattle.record_values.specs.declared.pair.Pair.{Pair}
 use Rattle.online_index.specs.Builds.{AreOfBuilder, AreStepsDue, HasMade, HasMadeRun, IsCount, IsOfBuilder, IsStop, attempt_of, attempts_after}
-use Rattle.online_index.specs.Builds.{checkpoint_due, due_of, listed, no_steps, note_of, notes_of_all, one_more, page_due, pair_due, reply_due, step_of, stop_of}
+use Rattle.online_index.specs.Builds.{checkpoint_due, due_of, listed, no_steps, note_of, notes_of_all, one_more, page_due, pair_due}
+use Rattle.online_index.specs.Builds.{reply_due, step_of, stop_of}
 use Rattle.online_index.specs.Standing.{StandsFor}
 use Rattle.online_index.specs.Value.{IndexValue}
 use Rattle.online_index.specs.declared.build.BuildStep.{BuildStep}

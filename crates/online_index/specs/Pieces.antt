@@ -45,8 +45,7 @@ pub data IsPastLive (m : Index) (start : Option Pair) : ℕ → Option Pair → 
       → IsLeastAbove m middle (Some (p, Live))
       → IsPastLive m start (n + 1) (Some p)
 
--- where the next marked entry is: past live ones, fewer than this many, or there is none, or the first ones are all
--- live
+-- where the next marked entry is: past live ones, fewer than this many; or there is none, or this many are all live
 abbrev pub IsNextMarked : Index → Option Pair → ℕ → NextMarked → Type 0
 IsNextMarked m start most (next.Found p) = (n : ℕ) × (n < most) × (middle : Option Pair)
     × IsPastLive m start n middle × IsLeastAbove m middle (Some (p, Marked))

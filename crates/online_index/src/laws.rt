@@ -53,9 +53,9 @@ pub fn every_redo()
     any_stop();
 }
 
-/// A law: an index that holds what these notes give, be they all notes since it was created or those of a checkpoint and
-/// of the steps since that began, stands, once it is reopened, for the world after these steps and `Reopen`. So what
-/// `every_index` says, it says of every order of steps that goes on from there.
+/// A law: an index that holds what these notes give, be they all notes since it was created or those of a checkpoint
+/// and of the steps since that began, stands, once it is reopened, for the world after these steps and `Reopen`. So
+/// what `every_index` says, it says of every order of steps that goes on from there.
 pub fn every_reopening()
     ensures created { (begun w : World) (steps : List Step) (v : IndexValue) → IsCreated begun → Runs begun steps w
         → held_by v ≡ redone (record { entries = empty; life = Building None }) (notes_over begun steps)

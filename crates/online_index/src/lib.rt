@@ -7,8 +7,8 @@
 //!
 //! Proved, of every call, for every world of `online_model` that the index stands for (`StandsFor`): the call makes one
 //! step of that machine, which is enabled where the index alone decides it, or nothing changes. So what `online_model`
-//! says of every order of steps, it says of this index (`every_index`). After a stop the notes of the host's log give the
-//! index again, alone or over a checkpoint that was saved in pieces (`every_redo`), and reopened it goes on
+//! says of every order of steps, it says of this index (`every_index`). After a stop the notes of the host's log give
+//! the index again, alone or over a checkpoint that was saved in pieces (`every_redo`), and reopened it goes on
 //! (`every_reopening`).
 #![tactic(auto)]
 

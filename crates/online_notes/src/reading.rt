@@ -27,6 +27,7 @@ fn slot_of(bytes: &[u8; 2]) -> u16
 
 // The pair that these bytes spell.
 fn pair_of(bytes: &[u8]) -> Option<Pair>
+    ensures writable { IfSome result (λ p. IsWritablePair p) }
     ensures spelled { IfSome result (λ p. bytes.now ≡ pair_bytes p) }
     ensures none { IfNone result ((p : Pair) → IsWritablePair p → bytes.now ≢ pair_bytes p) }
 {
@@ -44,8 +45,9 @@ fn pair_of(bytes: &[u8]) -> Option<Pair>
     Some(Pair { key, rid })
 }
 
-// The note that these bytes spell behind a first byte that says what it sets.
+// The note that these bytes spell after a first byte that says what it sets.
 fn note_of(first: u8, bytes: &[u8]) -> Option<Note>
+    ensures writable { IfSome result (λ n. IsWritable n) }
     ensures spelled { IfSome result (λ n. first ∷ bytes.now ≡ bytes_of n) }
     ensures none { IfNone result ((n : Note) → IsWritable n → first ∷ bytes.now ≢ bytes_of n) }
 {
@@ -64,6 +66,7 @@ fn note_of(first: u8, bytes: &[u8]) -> Option<Note>
 
 /// The note that these bytes spell, if they spell one.
 pub fn decode(bytes: &[u8]) -> Option<Note>
+    ensures writable { IfSome result (λ n. IsWritable n) }
     ensures spelled { IfSome result (λ n. bytes.now ≡ bytes_of n) }
     ensures none { IfNone result ((n : Note) → IsWritable n → bytes.now ≢ bytes_of n) }
 {

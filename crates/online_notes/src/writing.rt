@@ -1,10 +1,10 @@
 //! Writing notes.
-ghost use Rattle.std.specs.Prelude.{◌≡◌, ◌+◌, ◌<◌, ◌≤◌, ◌++◌, ◌∷◌, [], IfErr, OnErr, OnOk, length};
+ghost use Rattle.std.specs.Prelude.{◌≡◌, ◌+◌, ◌^◌, ◌<◌, ◌≤◌, ◌++◌, ◌∷◌, [], IfErr, OnErr, OnOk, length};
 ghost use Rattle.std.specs.Prelude.{vec_capacity, vec_len};
-ghost use Rattle.online_notes.specs.Spelling.{bytes_of, pair_bytes};
+ghost use Rattle.online_notes.specs.Spelling.{IsWritable, IsWritablePair, bytes_of, pair_bytes};
 
 use online_model::{Life, Note};
-use record_values::{Error, Mark, Pair};
+use record_values::{Error, Mark, Pair, Rid};
 use std::alloc::Allocator;
 
 /// The most bytes of a note.
@@ -35,15 +35,24 @@ fn append<A: Allocator>(out: &mut Vec<u8, A>, bytes: &[u8])
     }
 }
 
+// The page of a place.
+fn page_in(rid: Rid) -> u32
+    ensures number { result ≡ rid.page }
+    ensures small { rid.page < 2 ^ 32 }
+{
+    rid.page
+}
+
 // Appends what is set, and of which pair.
 fn append_pair<A: Allocator>(out: &mut Vec<u8, A>, first: u8, pair: &Pair)
     requires { vec_len out.old + NOTE_MAX ≤ vec_capacity out.old }
     ensures items { out.new.items ≡ out.old.items ++ (first ∷ pair_bytes pair.now) }
+    ensures writable { IsWritablePair pair.now }
     ensures few { length (pair_bytes pair.now) < NOTE_MAX }
 {
     let rid = pair.rid;
     append(out, &[first]);
-    append(out, &rid.page.to_be_bytes());
+    append(out, &page_in(rid).to_be_bytes());
     append(out, &rid.slot.to_be_bytes());
     append(out, pair.key.as_slice());
 }
@@ -53,6 +62,7 @@ fn append_pair<A: Allocator>(out: &mut Vec<u8, A>, first: u8, pair: &Pair)
 /// `NoMemory`, and nothing is then appended.
 pub fn encode<A: Allocator>(note: &Note, out: &mut Vec<u8, A>) -> Result<(), Error>
     ensures ok { OnOk result (out.new.items ≡ out.old.items ++ bytes_of note.now) }
+    ensures writable { OnOk result (IsWritable note.now) }
     ensures few { OnOk result (length (bytes_of note.now) ≤ NOTE_MAX) }
     ensures no_memory { IfErr result (λ e. e ≡ Error.NoMemory) }
     ensures unchanged { OnErr result (out.new.items ≡ out.old.items) }

@@ -1,8 +1,8 @@
 use Rattle.std.proofs.Common.{None, Ok, ap, arith, rules, sym, ◌++◌, ◌<◌, ◌∙◌, ◌≡◌}
 use Rattle.std.proofs.lemmas.List.{append-nil}
 use Rattle.std.specs.Result.{IsErr}
-use Rattle.online_index.proofs.Running.{err_count, is_count, more, no_run, none_made, none_noted, none_replied, one_replied}
-use Rattle.online_index.proofs.Running.{replied, same, same_replied, unchanged}
+use Rattle.online_index.proofs.Running.{err_count, is_count, more, no_run, none_made, none_noted, none_replied, one_replied, replied}
+use Rattle.online_index.proofs.Running.{same, same_replied, unchanged}
 use Rattle.online_index.proofs.index.OnlineIndex.build_many.Goals as goal
 use Rattle.online_index.specs.Builds.{stop_of}
 use Rattle.online_index.specs.declared.build.Stop.TheVariants.{Most}
