@@ -48,7 +48,7 @@ pub fn every_redo()
         → HeldAtSomeMoment begun steps w (λ m. life ≡ m.life) → IsSavedDuring w None begun steps pieces
         → StandsFor v w
         → redone (record { entries = empty; life = Building None })
-            (LifeIs life ∷ (pieces ++ notes_over begun steps)) ≡ held_by v }
+        (LifeIs life ∷ (pieces ++ notes_over begun steps)) ≡ held_by v }
 {
     any_stop();
 }
@@ -63,7 +63,7 @@ pub fn every_reopening()
     ensures saved { (begun w : World) (steps : List Step) (v : IndexValue) (life : Life) (pieces : List Note)
         → HeldAtSomeMoment begun steps w (λ m. life ≡ m.life) → IsSavedDuring w None begun steps pieces
         → held_by v ≡ redone (record { entries = empty; life = Building None })
-            (LifeIs life ∷ (pieces ++ notes_over begun steps))
+        (LifeIs life ∷ (pieces ++ notes_over begun steps))
         → StandsFor (reopened v w.pages) (after w Reopen) }
 {
     any_stop();
