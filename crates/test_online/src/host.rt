@@ -106,6 +106,7 @@ impl<A: Allocator + Copy> Host<A> {
 
     /// The cleaner takes one entry out, if it finds one.
     pub(crate) fn clean(&mut self) -> Result<(), Error> {
+        self.log.reserve(1)?;
         if let NextMarked::Found(pair) = self.index.next_marked(None, 32) {
             if self.index.clean(&pair) {
                 self.note(Some(&pair), None)?;
