@@ -194,7 +194,7 @@ fn are_others(content: &[[u8; SECTOR_SIZE]], missing: u64) -> bool {
         let byte = if number == missing || number == COUNT {
             0xff
         } else {
-            number as u8
+            (number & 0xff) as u8
         };
         if *sector != [byte; SECTOR_SIZE] {
             return false;
