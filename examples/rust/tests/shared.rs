@@ -184,7 +184,8 @@ fn what_waits_behind_a_dropping_is_served_in_turn() {
         .map(|ask| {
             let other = shared.seat();
             let asks = thread::spawn(move || ask(other));
-            thread::sleep(Duration::from_millis(20));
+            // so that each waits before the next one asks, also on a busy machine
+            thread::sleep(Duration::from_millis(300));
             asks
         })
         .collect();

@@ -180,7 +180,7 @@ fn a_file_is_made_and_opened_by_its_name() {
     // a file that has the name, or that of the draft, is left alone
     let is_left = |refused| matches!(refused, Some(Refused::System(it)) if it.kind() == ErrorKind::AlreadyExists);
     assert!(is_left(Store::create_at(&path, GEOMETRY).err()));
-    let draft = path.with_extension("new");
+    let draft = path.with_extension("nsf-draft");
     assert!(!draft.exists());
     std::fs::write(&draft, b"other").unwrap();
     assert!(is_left(Store::create_at(&path, GEOMETRY).err()));
@@ -212,7 +212,7 @@ fn a_store_is_made_in_an_empty_file_alone() {
 #[test]
 fn a_draft_that_was_left_gives_way() {
     let path = std::env::temp_dir().join(format!("nsf-rust-left-{}", std::process::id()));
-    let draft = path.with_extension("new");
+    let draft = path.with_extension("nsf-draft");
     drop(Store::create_at(&path, GEOMETRY).unwrap());
     let whole = std::fs::read(&path).unwrap();
     std::fs::remove_file(&path).unwrap();
