@@ -196,14 +196,14 @@ fn note_rows(told: &mut Told, put: Put, deleted: Option<Put>) -> Result<(), Erro
 // Notes what a writer was told of its commit. Nothing is acknowledged after a failure.
 fn note(
     told: &mut Told,
-    (put, deleted): (Put, Option<Put>),
+    (put, deleted): (&Put, Option<Put>),
     (record, waited): (u64, Result<(), Error>),
 ) -> Result<(), Error> {
     match waited {
         Ok(()) if told.failed == 0 => {
             told.acknowledged = told.acknowledged.saturating_add(1);
             told.safe = record;
-            note_rows(told, put, deleted)
+            note_rows(told, *put, deleted)
         }
         Ok(()) => Err(Error::DeviceFailed),
         Err(Error::DeviceFailed) => {
@@ -215,8 +215,8 @@ fn note(
 }
 
 // Takes a row off those that are safe, if there is one and it is the last of them: it is to be deleted. Its place.
-fn take_off(kept: &mut Vec<Put>, row: Option<Put>) -> Option<Rid> {
-    let row = row?;
+fn take_off(kept: &mut Vec<Put>, row: &Option<Put>) -> Option<Rid> {
+    let row = row.as_ref()?;
     let is_last = match kept.last() {
         Some(last) => last.second == row.second,
         None => false,
@@ -225,6 +225,21 @@ fn take_off(kept: &mut Vec<Put>, row: Option<Put>) -> Option<Rid> {
         kept.pop();
     }
     Some(row.rid)
+}
+
+// Commits a row that is put, and the deletion of another, and waits for the commit: the row, the number of its record,
+// and what the wait was answered.
+fn commit_row<C: Calls>(
+    seat: &mut C,
+    numbers: (u16, u16),
+    gone: Option<Rid>,
+) -> Result<(Put, (u64, Result<(), Error>)), Error> {
+    let (rid, ticket) = change(seat, numbers, gone)?;
+    let record = ticket.record.get();
+    let waited = seat.await_ack(ticket);
+    let (first, second) = numbers;
+    let put = Put { rid, first, second };
+    Ok((put, (record, waited)))
 }
 
 // A transaction that is kept: a row is put, and the one before is deleted, if it is to be; it is no longer among those
@@ -236,12 +251,9 @@ fn keep_row<C: Calls, R>(
     deleted: Option<Put>,
 ) -> Result<Put, Error> {
     let first = writer.number;
-    let gone = take_off(&mut writer.told.kept, deleted);
-    let (rid, ticket) = change(seat, (first, second), gone)?;
-    let put = Put { rid, first, second };
-    let waited = seat.await_ack(ticket);
-    let record = ticket.record.get();
-    note(&mut writer.told, (put, deleted), (record, waited))?;
+    let gone = take_off(&mut writer.told.kept, &deleted);
+    let (put, answer) = commit_row(seat, (first, second), gone)?;
+    note(&mut writer.told, (&put, deleted), answer)?;
     Ok(put)
 }
 
@@ -255,7 +267,7 @@ fn write_rows<C: Calls, R>(seat: &mut C, writer: &mut Writer<'_, R>) -> Result<(
             let rid = take_back(seat, (first, second))?;
             writer.told.gone.push(Put { rid, first, second })?;
         } else {
-            let deleted = if second % 4 == 2 { before } else { None };
+            let deleted = if second % 4 == 2 { before.take() } else { None };
             before = Some(keep_row(seat, writer, second, deleted)?);
         }
     }
