@@ -218,7 +218,11 @@ static SYNCED: [Scene; 5] = [
         Plain,
         &[
             ("synced", Step::Act(Act::Hold(0, 9, 1_024)), "done"),
-            ("synced", Step::Act(Act::NameToo("synced.new")), "done"),
+            (
+                "synced",
+                Step::Act(Act::NameToo("synced.nsf-draft")),
+                "done",
+            ),
         ],
     ),
     (Nothing, Calls(b"h", 0), &[("synced", READ, "done")]),
@@ -353,7 +357,7 @@ fn fail_after<R: Files<File = File> + AllocGlobal + Abort>(
     };
     drop(log);
     claim_at(rt, told == trouble, "the failing call", before, told);
-    let draft = told_of_act(rt, "failed.new", Act::Miss);
+    let draft = told_of_act(rt, "failed.nsf-draft", Act::Miss);
     claim_at(rt, draft == "done", "a draft after call", before, draft);
     if told_of_act(rt, "failed", Act::Miss) != "done" {
         play(rt, 0, &REMAINS);
