@@ -1,0 +1,3 @@
+mod Rows
+mod Moves
+mod Steps
