@@ -1,5 +1,5 @@
 -- Which ways and plans serve which trees.
-use Rattle.record_values.specs.declared.geometry.TheConstants.{LARGE_ENTRIES_MAX}
+use Rattle.btree_node.specs.declared.limits.TheConstants.{ENTRIES_MAX}
 use Rattle.std.specs.Prelude.{◌≡◌, ℕ, ◌<◌, List, Option, length}
 use Rattle.record_values.specs.declared.pair.Pair.{Pair}
 use Rattle.record_values.specs.declared.pair.Mark.{Mark}
@@ -31,6 +31,6 @@ pub record Planned : Type 0 where
 -- the plan was made for this tree: the tree has room for an entry, the path leads to where the pair belongs in it, and
 -- the nodes are enough
 pub record IsPlanFor (tree : Tree) (plan : Planned) : Type 0 where
-  pub room : length (entries tree) < LARGE_ENTRIES_MAX
+  pub room : length (entries tree) < ENTRIES_MAX
   pub way : plan.path ≡ top_path tree plan.pair
   pub enough : AreEnough (nodes_for tree plan.pair) plan.spares

@@ -1,5 +1,5 @@
 -- A whole tree, and what an insertion into it takes.
-use Rattle.record_values.specs.declared.geometry.TheConstants.{LARGE_ENTRIES_MAX}
+use Rattle.btree_node.specs.declared.limits.TheConstants.{ENTRIES_MAX}
 use Rattle.std.specs.Prelude.{◌≡◌, ℕ, ◌+◌, ◌≤◌, ◌==◌, cond, [], ◌∷◌, length, Option, Some, None, Box}
 use Rattle.node_parts.specs.declared.Node.{Node}
 use Rattle.record_values.specs.declared.pair.Pair.{Pair}
@@ -23,7 +23,7 @@ pub record IsSoundTop {A : Type 0} (root : Option (Box (Node A) A)) (len : ℕ) 
   pub ascending : IsAscending (entries (tree_at root))
   pub whole : IsWholeTree root
   pub counted : len ≡ length (entries (tree_at root))
-  pub few : len ≤ LARGE_ENTRIES_MAX
+  pub few : len ≤ ENTRIES_MAX
 
 -- how many levels a whole tree has
 abbrev pub height_of : Tree → ℕ

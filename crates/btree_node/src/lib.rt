@@ -7,7 +7,8 @@
 //! that has room, and else changes nothing and says why (`outcome`, `added`, `unchanged`). `make_room` keeps the map
 //! (`contents`), says just where a leaf can hand entries over (`made`), and the pair has room then (`room`).
 //! `above` and `below` answer the next entry either way. A look-up goes down by a `Descent`, which counts each node
-//! that it visits. `get` and `find_way` visit as many as the tree is high (`visited`), at most six (`few_visited`).
+//! that it visits. `get` and `find_way` visit as many as the tree is high (`visited`), at most seven (`few_visited`),
+//! and at most six where a large store has room for the entries (`large`).
 //! `run_above` answers entries that follow one another (`run`), and none only where none is above (`none`). Only
 //! tested (`test_tables`): plans with each allocation refused in turn; heights of full trees, and how many runs a walk
 //! over one takes. Neither: how many nodes `put_in_leaf`, `make_room`, `above`, `below` and `run_above` look at; that
@@ -29,6 +30,7 @@ ghost use Rattle.btree_node.specs.Placed.{outcome};
 
 mod inline;
 mod insertion;
+mod limits;
 mod lookup;
 mod marking;
 mod placing;
@@ -40,6 +42,10 @@ mod walk;
 
 use inline::Inline;
 use insertion::insert_top;
+pub use limits::{
+    ENTRIES_MAX, LARGE_ENTRIES_MAX, LARGE_LEVELS_MAX, LEVELS_MAX, SMALL_ENTRIES_MAX,
+    SMALL_LEVELS_MAX,
+};
 use lookup::{levels, mark_below, way_to};
 use marking::set_mark_in;
 pub use node_parts::Entry;
@@ -55,18 +61,6 @@ use spares::Spares;
 use std::alloc::Allocator;
 use std::marker::Model;
 use walk::{above_in, below_in, first_in, last_in};
-
-/// The most entries that a tree can have.
-pub const ENTRIES_MAX: usize = record_values::LARGE_ENTRIES_MAX as usize;
-
-/// The most levels of a tree.
-pub const LEVELS_MAX: usize = 6;
-
-/// How many entries take four levels at the most.
-pub const SMALL_ENTRIES_MAX: usize = record_values::ENTRIES_MAX as usize;
-
-/// The most levels of a tree of so few entries.
-pub const SMALL_LEVELS_MAX: usize = 4;
 
 /// A pair with its way down a tree, found in one walk: how many nodes the pair's insertion takes, its mark if it has an
 /// entry, and how many nodes were visited.
@@ -93,7 +87,7 @@ impl Model for Way {
       visits = w.visits;
     } };
 
-    ghost invariant = { λ w. w.path.capacity ≡ 6 };
+    ghost invariant = { λ w. w.path.capacity ≡ 7 };
 }
 
 impl Way {
@@ -128,7 +122,7 @@ impl<A: Allocator> Model for Plan<A> {
 
     ghost view = { λ p. record { pair = p.pair; path = p.path.items; spares = p.spares } };
 
-    ghost invariant = { λ p. p.path.capacity ≡ 6 };
+    ghost invariant = { λ p. p.path.capacity ≡ 7 };
 }
 
 /// A map from pair to mark, in the order of pairs. Contracts see the nodes as plain data, of which `contents` is the
@@ -201,11 +195,12 @@ impl<A: Allocator + Clone> BTree<A> {
         self.len == 0
     }
 
-    /// How many levels of nodes there are: none in an empty tree, and never more than six. Up to 65,536 entries
-    /// take four at the most.
+    /// How many levels of nodes there are: none in an empty tree, and never more than seven. Up to 8,388,608 entries
+    /// take six at the most, and up to 65,536 four.
     pub fn height(&self) -> u32
         ensures height { result ≡ height_of self.now }
         ensures low { result ≤ LEVELS_MAX }
+        ensures large { map.len (contents self.now) ≤ LARGE_ENTRIES_MAX → result ≤ LARGE_LEVELS_MAX }
         ensures small { map.len (contents self.now) ≤ SMALL_ENTRIES_MAX → result ≤ SMALL_LEVELS_MAX }
         ensures empty { (result ≡ 0) ↔ (contents self.now ≡ map.empty) }
     {
@@ -220,6 +215,7 @@ impl<A: Allocator + Clone> BTree<A> {
         ensures found { result.0 ≡ map.get (contents self.now) pair.now }
         ensures visited { result.1 ≡ height_of self.now }
         ensures few_visited { result.1 ≤ LEVELS_MAX }
+        ensures large { map.len (contents self.now) ≤ LARGE_ENTRIES_MAX → result.1 ≤ LARGE_LEVELS_MAX }
         ensures small { map.len (contents self.now) ≤ SMALL_ENTRIES_MAX → result.1 ≤ SMALL_LEVELS_MAX }
     {
         match &self.root {

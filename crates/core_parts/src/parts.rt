@@ -153,7 +153,7 @@ fn reserve<A: Allocator + Copy>(
 )
     requires room { indexed ≡ true
         → map.len index.old.entries + index.old.pledged + PLACES_PER_CHANGE ≤ index.old.capacity }
-    requires few { reserved ≤ 8388608 }
+    requires few { reserved ≤ 268435456 }
     ensures index { index.new ≡ record index.old { pledged = index.old.pledged + places_of indexed } }
     ensures txns { txns.new ≡ record txns.old {
       active = table.with_state
@@ -232,7 +232,7 @@ impl<A: Allocator + Copy> CoreParts<A> {
     pub(crate) fn reserved(&self, txn: Txn) -> usize
         requires { ∥ IsSafe (parts_of self.now) ∥₁ }
         ensures number { result ≡ reserved_of (txn_shown (parts_of self.now) txn) }
-        ensures few { result ≤ 8388608 }
+        ensures few { result ≤ 268435456 }
         ensures within { result ≤ (parts_of self.now).index.pledged }
     {
         self.index.stands();

@@ -14,7 +14,7 @@ use Rattle.record_values.specs.KeyActions.{after_action}
 use Rattle.record_values.specs.Entries.{Index}
 use Rattle.btree_node.specs.Placed.{outcome}
 use Rattle.btree_node.specs.declared.placing.InLeaf.TheVariants.{Added, Found, NoRoom}
-use Rattle.record_values.specs.declared.geometry.TheConstants.{LARGE_ENTRIES_MAX}
+use Rattle.btree_node.specs.declared.limits.TheConstants.{ENTRIES_MAX}
 use Rattle.record_values.specs.declared.error.Error.{Error}
 use Rattle.marked_index.specs.Index.{IndexValue, IsFull, IsWithinCapacity, entries_after}
 
@@ -70,7 +70,7 @@ pub room_changed : (m n : Index) (p : Pair) (x : Mark) (k c : ℕ) → IsWithinC
 room_changed m n p x k c room there e = record { within = omega (arith, len_changed m p x there, ap map.len e, room.within); most = room.most }
 
 -- one more entry, and j places pledged
-pub room_added : (m n : Index) (p : Pair) (x : Mark) (j c : ℕ) → map.len m + 1 + j ≤ c → c ≤ LARGE_ENTRIES_MAX → map.get m p ≡ None → n ≡ map.insert m p x
+pub room_added : (m n : Index) (p : Pair) (x : Mark) (j c : ℕ) → map.len m + 1 + j ≤ c → c ≤ ENTRIES_MAX → map.get m p ≡ None → n ≡ map.insert m p x
     → IsWithinCapacity (record { entries = n; pledged = j; capacity = c })
 room_added m n p x j c fits most absent e = record { within = omega (arith, len_added m p x absent, ap map.len e, fits); most = most }
 

@@ -10,7 +10,7 @@ use Rattle.std.specs.declared.cmp.Ordering.{Ordering}
 use Rattle.std.specs.declared.cmp.Ordering.TheVariants.{Equal, Greater, Less}
 use Rattle.record_values.specs.Maps.{get-set_at_same, pair_exact, set_at, set_at-again, set_at-get}
 use Rattle.record_values.specs.Orders.{pair_cmp, pair_cmp_total}
-use Rattle.record_values.specs.declared.geometry.TheConstants.{LARGE_ENTRIES_MAX}
+use Rattle.btree_node.specs.declared.limits.TheConstants.{ENTRIES_MAX}
 use Rattle.record_values.specs.declared.pair.Mark.{Mark}
 use Rattle.record_values.specs.declared.pair.Mark.TheVariants.{Live, Marked}
 use Rattle.record_values.specs.declared.pair.Pair.{Pair}
@@ -116,16 +116,16 @@ counted_none m is = record {
 pub among_all : (m : Index) (k : ℕ) (p : Pair) (o : Option Mark) → IsCounted m k → map.get m p ≡ o → marked_of o ≤ k
 among_all m k p o is here = omega (arith, removed_by m p o here, is.number)
 
-pub few_marked : (m : Index) (k : ℕ) → IsCounted m k → k ≤ LARGE_ENTRIES_MAX
+pub few_marked : (m : Index) (k : ℕ) → IsCounted m k → k ≤ ENTRIES_MAX
 few_marked m k is = omega (arith, each_counted m, is.number, is.most)
 
 module _ (m n : Index) (p : Pair) (o : Option Mark) (k j : ℕ) (is : IsCounted m k) (here : map.get m p ≡ o) where
-  within : (x : Mark) → (o ≡ None → map.len m < LARGE_ENTRIES_MAX) → map.len (map.insert m p x) ≤ LARGE_ENTRIES_MAX
-  within x room = by_mark (map.len (map.insert m p x) ≤ LARGE_ENTRIES_MAX) (map.get m p)
-      (λ none. let left : map.len m < LARGE_ENTRIES_MAX = room (sym here ∙ none) in omega (arith, len_added m p x none, left))
+  within : (x : Mark) → (o ≡ None → map.len m < ENTRIES_MAX) → map.len (map.insert m p x) ≤ ENTRIES_MAX
+  within x room = by_mark (map.len (map.insert m p x) ≤ ENTRIES_MAX) (map.get m p)
+      (λ none. let left : map.len m < ENTRIES_MAX = room (sym here ∙ none) in omega (arith, len_added m p x none, left))
       (λ there. omega (arith, len_changed m p x there, is.most))
 
-  pub counted_insert : (x : Mark) → (o ≡ None → map.len m < LARGE_ENTRIES_MAX) → n ≡ map.insert m p x → j + marked_of o ≡ k + marked_of (Some x)
+  pub counted_insert : (x : Mark) → (o ≡ None → map.len m < ENTRIES_MAX) → n ≡ map.insert m p x → j + marked_of o ≡ k + marked_of (Some x)
       → IsCounted n j
   counted_insert x room new sum = record {
     number = omega (arith, marked_insert m p x, ap marked_of here, ap marked_in new, is.number, sum);

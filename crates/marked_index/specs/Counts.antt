@@ -1,7 +1,7 @@
 -- How many entries are marked, and how many are live.
 use Rattle.std.specs.Prelude.{◌≡◌, ◌≤◌, ℕ, Bool, true, false, not, filter, length, Option, Some, None}
 use Rattle.std.specs.FinMap.{entries, len}
-use Rattle.record_values.specs.declared.geometry.TheConstants.{LARGE_ENTRIES_MAX}
+use Rattle.btree_node.specs.declared.limits.TheConstants.{ENTRIES_MAX}
 use Rattle.record_values.specs.declared.pair.Pair.{Pair}
 use Rattle.record_values.specs.declared.pair.Mark.{Mark}
 use Rattle.record_values.specs.declared.pair.Mark.TheVariants.{Live, Marked}
@@ -29,4 +29,4 @@ marked_of (Some Marked) = 1
 -- so many of the entries are marked, and all are no more than a tree can hold
 pub record IsCounted (index : Index) (marked : ℕ) : Type 0 where
   pub number : marked ≡ marked_in index
-  pub most : len index ≤ LARGE_ENTRIES_MAX
+  pub most : len index ≤ ENTRIES_MAX

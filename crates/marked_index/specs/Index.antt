@@ -4,7 +4,7 @@ use Rattle.std.specs.Coded.{Coded, code_by, coded×, coded_ℕ}
 use Rattle.std.specs.FinMap as map
 use Rattle.record_values.specs.Codes.{coded_pair, coded_mark}
 use Rattle.record_values.specs.Maps.{set_at}
-use Rattle.record_values.specs.declared.geometry.TheConstants.{LARGE_ENTRIES_MAX}
+use Rattle.btree_node.specs.declared.limits.TheConstants.{ENTRIES_MAX}
 use Rattle.record_values.specs.declared.pair.Pair.{Pair}
 use Rattle.record_values.specs.declared.pair.Mark.{Mark}
 use Rattle.record_values.specs.declared.key_action.KeyAction.{KeyAction}
@@ -25,7 +25,7 @@ coded_index = code_by (Index × (ℕ × ℕ)) (coded× (map.code coded_pair code
 -- the entries and the reserved places are within the capacity, and that is what a tree can hold
 pub record IsWithinCapacity (v : IndexValue) : Type 0 where
   pub within : map.len v.entries + v.pledged ≤ v.capacity
-  pub most : v.capacity ≤ LARGE_ENTRIES_MAX
+  pub most : v.capacity ≤ ENTRIES_MAX
 
 -- every place is taken or reserved
 abbrev pub IsFull : IndexValue → Type 0

@@ -19,7 +19,7 @@ ghost use Rattle.marked_index.specs.Index.{after_txn_action};
 ghost use Rattle.marked_index.specs.Shown.{IsNextOf, mark_at};
 
 use crate::entries::Entries;
-use btree_node::{Cleared, Entry};
+use btree_node::{Cleared, ENTRIES_MAX, Entry};
 use record_values::{Error, Geometry, Key, Mark, PLACES_PER_CHANGE, Pair, Rid};
 use std::alloc::Allocator;
 use std::marker::Model;
@@ -88,6 +88,20 @@ impl<A: Allocator + Clone> MarkedIndex<A> {
         }
     }
 
+    /// An index without entries, with room for so many: as many as a tree can have, at most.
+    ///
+    /// It takes no memory.
+    pub fn with_room(alloc: A, capacity: usize) -> Self
+        requires { capacity ≤ ENTRIES_MAX }
+        ensures { result ≡ record { entries = map.empty; pledged = 0; capacity = capacity } }
+    {
+        MarkedIndex {
+            entries: Entries::new(alloc),
+            pledged: 0,
+            capacity,
+        }
+    }
+
     /// A law: what the type keeps. Entries and pledged places are within the capacity.
     pub fn stands(&self)
         ensures { IsWithinCapacity self.now }
@@ -117,6 +131,13 @@ impl<A: Allocator + Clone> MarkedIndex<A> {
         ensures live { map.len self.now.entries - result ≡ live_in self.now.entries }
     {
         self.entries.marked()
+    }
+
+    /// How many entries and pledged places there is room for.
+    pub fn capacity(&self) -> usize
+        ensures { result ≡ self.now.capacity }
+    {
+        self.capacity
     }
 
     /// How many places are pledged and not used yet.

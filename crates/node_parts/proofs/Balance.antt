@@ -36,6 +36,19 @@ root_at_least h (branch f) b k =
     omega (arith, all, two)
 
 -- a number of levels, and the entries that one more would have
+eight_levels : (h : ℕ) (t : Tree) → IsRoot h t → 8 ≤ h → 536870912 ≤ length (entries t)
+eight_levels h t b m =
+    let seven : 7 ≤ h - 1 = omega arith in
+    let pow : 16 ^ 7 ≤ 16 ^ (h - 1) = pow-le-pow_right {n = 16} (lit< tt) seven in
+    let two : 2 * 16 ^ (h - 1) ≤ length (entries t) = root_at_least h t b (omega arith) in
+    omega (arith, pow, two)
+
+-- up to 268,435,456 entries give at most seven levels
+pub at_most_seven : (h : ℕ) (t : Tree) → IsRoot h t → length (entries t) ≤ 268435456 → h ≤ 7
+at_most_seven h t b k =
+    let big : 8 ≤ h → 536870912 ≤ length (entries t) = λ m. eight_levels h t b m in
+    grind (arith, big)
+
 seven_levels : (h : ℕ) (t : Tree) → IsRoot h t → 7 ≤ h → 33554432 ≤ length (entries t)
 seven_levels h t b m =
     let six : 6 ≤ h - 1 = omega arith in

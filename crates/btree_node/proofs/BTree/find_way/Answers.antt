@@ -1,7 +1,7 @@
 use Rattle.std.proofs.Common.{rules, arith, ◌∙◌, sym, ap, subst, ◌++◌, ◌≡◌, ◌+◌, ◌^◌, ◌<◌, ℕ, length}
 use Rattle.node_parts.specs.Tree.{entries, depth}
 use Rattle.node_parts.specs.Order.{mark_in}
-use Rattle.node_parts.proofs.Balance.{at_most_six}
+use Rattle.node_parts.proofs.Balance.{at_most_seven}
 use Rattle.btree_node.specs.Path.{top_path, path_of}
 use Rattle.btree_node.specs.Splits.{splits}
 use Rattle.btree_node.specs.Top.{tree_at, IsWholeTree, nodes_for}
@@ -20,21 +20,21 @@ way_to-splits-requires-clause-some g c =
 pub way_to-splits-requires-clause-low : goal.way_to-splits-requires-clause-low
 way_to-splits-requires-clause-low g c =
     let whole = subst IsWholeTree c.in-Some.is c.self.invariant.whole in
-    let few = at_most_six _ _ whole (omega (arith, c.self.invariant.counted, c.self.invariant.few, ap (λ r. length (entries (tree_at r))) c.in-Some.is)) in
+    let few = at_most_seven _ _ whole (omega (arith, c.self.invariant.counted, c.self.invariant.few, ap (λ r. length (entries (tree_at r))) c.in-Some.is)) in
     let node = ap (λ r. r.node) c.new-way.ensures ∙ c.deref.ensures in
     omega (arith, few, ap depth node, ap (λ r. r.visits) c.new-way.ensures)
 
 pub way_to-splits-requires-clause-room : goal.way_to-splits-requires-clause-room
 way_to-splits-requires-clause-room g c =
     let whole = subst IsWholeTree c.in-Some.is c.self.invariant.whole in
-    let few = at_most_six _ _ whole (omega (arith, c.self.invariant.counted, c.self.invariant.few, ap (λ r. length (entries (tree_at r))) c.in-Some.is)) in
+    let few = at_most_seven _ _ whole (omega (arith, c.self.invariant.counted, c.self.invariant.few, ap (λ r. length (entries (tree_at r))) c.in-Some.is)) in
     let node = ap (λ r. r.node) c.new-way.ensures ∙ c.deref.ensures in
     omega (arith, few, ap depth node, ap length c.new-path.ensures.items, c.new-path.ensures.capacity)
 
 pub overflow_add-nodes : goal.overflow_add-nodes
 overflow_add-nodes g c =
     let whole = subst IsWholeTree c.in-Some.is c.self.invariant.whole in
-    let few = at_most_six _ _ whole (omega (arith, c.self.invariant.counted, c.self.invariant.few, ap (λ r. length (entries (tree_at r))) c.in-Some.is)) in
+    let few = at_most_seven _ _ whole (omega (arith, c.self.invariant.counted, c.self.invariant.few, ap (λ r. length (entries (tree_at r))) c.in-Some.is)) in
     let node = ap (λ r. r.node) c.new-way.ensures ∙ c.deref.ensures in
     let small : c.way_to-splits.result.0 + c.from.result < 2 ^ 64 =
     omega (arith, few, ap depth node, c.way_to-splits.ensures.few, c.from.ensures, bool_byte_small c.way_to-splits.result.1) in

@@ -1,6 +1,6 @@
 use Rattle.std.proofs.Common.{◌≡◌, ◌<◌, None, ap, sym, subst, refl, ◌∙◌, arith}
 use Rattle.std.specs.FinMap as map
-use Rattle.record_values.specs.declared.geometry.TheConstants.{LARGE_ENTRIES_MAX}
+use Rattle.btree_node.specs.declared.limits.TheConstants.{ENTRIES_MAX}
 use Rattle.record_values.specs.declared.pair.Mark.TheVariants.{Live}
 use Rattle.record_values.specs.Entries.{Index}
 use Rattle.btree_node.specs.Contents.{contents}
@@ -18,5 +18,5 @@ invariant_of-self-2 g c =
     let made : contents c.make_room.new.self ≡ m = c.make_room.ensures.contents in
     let absent : map.get m p ≡ None = ap (λ (i : Index). map.get i p) (sym made) ∙ added_is _ _ c.in-Added.ensures.outcome in
     counted_insert m _ p None _ _ c.self.invariant absent Live
-    (λ _. subst (λ (i : Index). map.len i < LARGE_ENTRIES_MAX) (sym c.self.view_is) c.requires.room)
+    (λ _. subst (λ (i : Index). map.len i < ENTRIES_MAX) (sym c.self.view_is) c.requires.room)
     (c.in-Added.ensures.added refl ∙ ap (λ (i : Index). map.insert i p Live) made) refl

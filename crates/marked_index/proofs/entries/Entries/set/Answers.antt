@@ -1,7 +1,7 @@
 use Rattle.std.proofs.Common.{◌≡◌, ◌<◌, None, Some, ap, sym, subst, refl, ◌∙◌}
 use Rattle.std.proofs.lemmas.Result.{err_from_is_err_and}
 use Rattle.std.specs.FinMap as map
-use Rattle.record_values.specs.declared.geometry.TheConstants.{LARGE_ENTRIES_MAX}
+use Rattle.btree_node.specs.declared.limits.TheConstants.{ENTRIES_MAX}
 use Rattle.record_values.specs.declared.pair.Mark.{Mark}
 use Rattle.node_parts.specs.Tree.{Tree}
 use Rattle.record_values.specs.Entries.{Index}
@@ -21,8 +21,8 @@ invariant_of-self g c =
     let m = contents c.self.inside.tree in
     let p = c.args.pair.now in
     let absent : map.get m p ≡ None = added_is _ _ c.in-Added.ensures.outcome in
-    let room : map.get m p ≡ None → map.len m < LARGE_ENTRIES_MAX =
-    subst (λ (i : Index). map.get i p ≡ None → map.len i < LARGE_ENTRIES_MAX) (sym c.self.view_is) c.requires.room in
+    let room : map.get m p ≡ None → map.len m < ENTRIES_MAX =
+    subst (λ (i : Index). map.get i p ≡ None → map.len i < ENTRIES_MAX) (sym c.self.view_is) c.requires.room in
     counted_insert m _ p None _ _ c.self.invariant absent c.args.mark (λ none. room absent) (c.in-Added.ensures.added refl) c.recount-self-inside.ensures
 
 pub recount-self-inside-requires-in-Found-clause-among : goal.recount-self-inside-requires-in-Found-clause-among
@@ -48,7 +48,7 @@ plant-requires g c =
     subst (λ (i : Index). map.get i p ≡ None) c.self.view_is (no_room_is _ _ c.in-NoRoom.ensures.outcome) in
     let same : contents c.put_in_leaf.new.self ≡ c.args.self.now = ap contents (c.in-NoRoom.ensures.unchanged no_room_not_added) ∙ c.self.view_is in
     record {
-      room = subst (λ (i : Index). map.len i < LARGE_ENTRIES_MAX) (sym same) (c.requires.room absent);
+      room = subst (λ (i : Index). map.len i < ENTRIES_MAX) (sym same) (c.requires.room absent);
       absent = subst (λ (i : Index). map.get i p ≡ None) (sym same) absent;
     }
 

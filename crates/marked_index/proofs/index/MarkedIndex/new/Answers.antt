@@ -7,5 +7,5 @@ use Rattle.marked_index.proofs.index.MarkedIndex.new.Goals as goal
 pub invariant_of-result : goal.invariant_of-result
 invariant_of-result g c = record {
   within = omega (arith, ap map.len c.new.ensures, map.len-empty pair_cmp Mark);
-  most = c.geometry.invariant.most_entries;
+  most = omega (arith, c.geometry.invariant.most_entries);
 }
