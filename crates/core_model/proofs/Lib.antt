@@ -23,4 +23,5 @@ mod Example
 mod Replies
 mod Served
 mod Worked
+mod Pinned
 pub mod ReplyLaws

@@ -531,7 +531,7 @@ place_made : (p : Pair) (o : Option Mark) → o ≡ None → (n : ℕ) → n + 1
 place_made p None e n = refl
 place_made p (Some mark) e n = absurd (not_none refl e)
 
-place_none : (p : Pair) (o : Option Mark) → (o ≡ None → ⊥) → (n : ℕ) → n ≡ next_number n (place_action p o)
+pub place_none : (p : Pair) (o : Option Mark) → (o ≡ None → ⊥) → (n : ℕ) → n ≡ next_number n (place_action p o)
 place_none p None h n = absurd (h refl)
 place_none p (Some mark) h n = refl
 
@@ -628,13 +628,17 @@ asked_last writes [] e reply = refl
 asked_last writes (p ∷ pairs) e reply = asked_last (asked_after writes p.1 p.0) pairs e reply
 
 -- one allowed reply more
-serves_last : (s : State) (k : Standing) (pairs : List (Event × Reply)) (s' : State) (k' : Standing) (e : Event) (reply : Reply) (step : Option MachineStep)
-    → ServesAll s k pairs s' k' → IsAllowed s' k' e reply step
-    → ServesAll s k (pairs ++ (e, reply) ∷ []) (after_any s' step) (standing_after k' reply)
-serves_last s k pairs s' k' e reply step nothing allowed = served e reply step [] allowed nothing
-serves_last s k pairs s' k' e reply step (served first_event first_reply first_step rest first_allowed r) allowed =
-    served first_event first_reply first_step (rest ++ (e, reply) ∷ []) first_allowed
-    (serves_last (after_any s first_step) (standing_after k first_reply) rest s' k' e reply step r allowed)
+serves_last : (s : State) (k : Standing) (pairs : List (Event × Reply)) (made : List RecordValue) (s' : State) (k' : Standing) (e : Event) (reply : Reply)
+    (step : Option MachineStep) → ServesAll s k pairs made s' k' → IsAllowed s' k' e reply step
+    → ServesAll s k (pairs ++ (e, reply) ∷ []) (made ++ records_by s' k'.made step) (after_any s' step) (standing_after k' reply)
+serves_last s k pairs made s' k' e reply step nothing allowed =
+    subst (λ rs. ServesAll s k ((e, reply) ∷ []) rs (after_any s step) (standing_after k reply)) (append-nil (records_by s k.made step))
+    (served e reply step [] [] allowed nothing)
+serves_last s k pairs made s' k' e reply step (served first_event first_reply first_step rest later first_allowed r) allowed =
+    subst (λ rs. ServesAll s k ((first_event, first_reply) ∷ (rest ++ (e, reply) ∷ [])) rs (after_any s' step) (standing_after k' reply))
+    (sym (append_assoc (records_by s k.made first_step) later (records_by s' k'.made step)))
+    (served first_event first_reply first_step (rest ++ (e, reply) ∷ []) (later ++ records_by s' k'.made step) first_allowed
+    (serves_last (after_any s first_step) (standing_after k first_reply) rest later s' k' e reply step r allowed))
 
 module _ (o : Opened) (can : CanOpen o) (made : List RecordValue) (pairs : List (Event × Reply)) (s : State) (k : Standing)
     (h : HasServed o made pairs s k) where
@@ -655,7 +659,7 @@ module _ (o : Opened) (can : CanOpen o) (made : List RecordValue) (pairs : List 
       → HasStanding (after_any s step) (standing_after k reply) → Tells asked k.made e reply step → (standing_after k reply).made ≡ number_after s k.made step
       → HasServed o (made ++ records_by s k.made step) (pairs ++ (e, reply) ∷ []) (after_any s step) (standing_after k reply)
   go_on e reply None allowed a standing t m = record {
-    served = serves_last (opened o) (standing_at o.given.last) pairs s k e reply None h.served allowed;
+    served = serves_last (opened o) (standing_at o.given.last) pairs made s k e reply None h.served allowed;
     log =
         subst (λ rs. HasMade o rs (items_of no_writes (pairs ++ (e, reply) ∷ [])) (asked_over no_writes (pairs ++ (e, reply) ∷ [])) s) (sym (append-nil made))
         (subst (λ items. HasMade o made items (asked_over no_writes (pairs ++ (e, reply) ∷ [])) s)
@@ -670,7 +674,7 @@ module _ (o : Opened) (can : CanOpen o) (made : List RecordValue) (pairs : List 
       (items_of no_writes pairs ++ map (item_at (o.given.last + length made)) (deeds_of asked step)) (writes_after asked step) (after s step) =
       made_more o can made (items_of no_writes pairs) asked s h.log step a few in
       record {
-        served = serves_last (opened o) (standing_at o.given.last) pairs s k e reply (Some step) h.served allowed;
+        served = serves_last (opened o) (standing_at o.given.last) pairs made s k e reply (Some step) h.served allowed;
         log =
             subst (λ items. HasMade o (made ++ one_record k.made (action_of s step)) items (asked_over no_writes (pairs ++ (e, reply) ∷ [])) (after s step))
             (sym (items_last no_writes pairs e reply ∙ ap (λ l. items_of no_writes pairs ++ l) t.items))
@@ -710,16 +714,18 @@ module _ (o : Opened) (can : CanOpen o) (made : List RecordValue) (pairs : List 
   served_allowed e reply step (no_memory a b c r x d f w) = without_step e _ (no_memory a b c r x d f w) refl refl refl
   served_allowed e reply step (accepted a b c r x d f) = served_due e r x a b c d f
 
-served_on : (o : Opened) (can : CanOpen o) (before : List (Event × Reply)) (s : State) (k : Standing) (pairs : List (Event × Reply)) (s' : State)
-    (k' : Standing) → ServesAll s k pairs s' k' → (made : List RecordValue) → HasServed o made before s k
-    → (all : List RecordValue) × HasServed o all (before ++ pairs) s' k'
-served_on o can before s k pairs s' k' nothing made h = (made, subst (λ ps. HasServed o made ps s k) (sym (append-nil before)) h)
-served_on o can before s k pairs s'' k'' (served e reply step rest allowed r) made h =
+served_on : (o : Opened) (can : CanOpen o) (before : List (Event × Reply)) (s : State) (k : Standing) (pairs : List (Event × Reply))
+    (more : List RecordValue) (s' : State) (k' : Standing) → ServesAll s k pairs more s' k' → (made : List RecordValue) → HasServed o made before s k
+    → HasServed o (made ++ more) (before ++ pairs) s' k'
+served_on o can before s k pairs more s' k' nothing made h =
+    subst (λ rs. HasServed o rs (before ++ []) s k) (sym (append-nil made)) (subst (λ ps. HasServed o made ps s k) (sym (append-nil before)) h)
+served_on o can before s k pairs more s'' k'' (served e reply step rest later allowed r) made h =
     let one : HasServed o (made ++ records_by s k.made step) (before ++ (e, reply) ∷ []) (after_any s step) (standing_after k reply) =
     served_allowed o can made before s k h e reply step allowed in
-    let all : (all : List RecordValue) × HasServed o all ((before ++ (e, reply) ∷ []) ++ rest) s'' k'' =
-    served_on o can (before ++ (e, reply) ∷ []) (after_any s step) (standing_after k reply) rest s'' k'' r (made ++ records_by s k.made step) one in
-    (all.0, subst (λ ps. HasServed o all.0 ps s'' k'') (append_assoc before ((e, reply) ∷ []) rest) all.1)
+    let all : HasServed o ((made ++ records_by s k.made step) ++ later) ((before ++ (e, reply) ∷ []) ++ rest) s'' k'' =
+    served_on o can (before ++ (e, reply) ∷ []) (after_any s step) (standing_after k reply) rest later s'' k'' r (made ++ records_by s k.made step) one in
+    subst (λ rs. HasServed o rs (before ++ (e, reply) ∷ rest) s'' k'') (append_assoc made (records_by s k.made step) later)
+    (subst (λ ps. HasServed o ((made ++ records_by s k.made step) ++ later) ps s'' k'') (append_assoc before ((e, reply) ∷ []) rest) all)
 
 pub opened_standing : (o : Opened) (last : ℕ) → last ≤ LAST_NUMBER → HasStanding (opened o) (standing_at last)
 opened_standing o last le = record {
@@ -738,9 +744,9 @@ served_nothing o le = record { served = nothing; log = made_nothing o; number = 
     no_more : (n : ℕ) → n ≡ n + 0
     no_more n = omega arith
 
-pub all_served : (o : Opened) → CanOpen o → o.given.last ≤ LAST_NUMBER → (pairs : List (Event × Reply)) (s : State) (k : Standing)
-    → ServesAll (opened o) (standing_at o.given.last) pairs s k → (made : List RecordValue) × HasServed o made pairs s k
-all_served o can le pairs s k r = served_on o can [] (opened o) (standing_at o.given.last) pairs s k r [] (served_nothing o le)
+pub all_served : (o : Opened) → CanOpen o → o.given.last ≤ LAST_NUMBER → (made : List RecordValue) (pairs : List (Event × Reply)) (s : State) (k : Standing)
+    → ServesAll (opened o) (standing_at o.given.last) pairs made s k → HasServed o made pairs s k
+all_served o can le made pairs s k r = served_on o can [] (opened o) (standing_at o.given.last) pairs made s k r [] (served_nothing o le)
 
 -- the numbers of records and of transactions
 pub served_numbers : (o : Opened) (made : List RecordValue) (pairs : List (Event × Reply)) (s : State) (k : Standing) → HasServed o made pairs s k
@@ -866,13 +872,13 @@ ticketed s k e reply step writes (no_memory a b c r x d f w) = no_ticket _ _ (om
 ticketed s k e reply step writes (accepted a b c r x d f) = due_ticket s k writes e r x d
 
 -- the numbers are above that of the first record, and at most that of the last
-all_rising : (s : State) (k : Standing) (pairs : List (Event × Reply)) (s' : State) (k' : Standing) → ServesAll s k pairs s' k' → (writes : ℕ → List Write)
-    → AreRising k.made (items_of writes pairs)
-all_rising s k pairs s' k' nothing writes = tt
-all_rising s k pairs s'' k'' (served e reply step rest allowed r) writes =
+all_rising : (s : State) (k : Standing) (pairs : List (Event × Reply)) (made : List RecordValue) (s' : State) (k' : Standing)
+    → ServesAll s k pairs made s' k' → (writes : ℕ → List Write) → AreRising k.made (items_of writes pairs)
+all_rising s k pairs made s' k' nothing writes = tt
+all_rising s k pairs made s'' k'' (served e reply step rest later allowed r) writes =
     (ticketed s k e reply step writes allowed).before (items_of (asked_after writes reply e) rest)
-    (all_rising (after_any s step) (standing_after k reply) rest s'' k'' r (asked_after writes reply e))
+    (all_rising (after_any s step) (standing_after k reply) rest later s'' k'' r (asked_after writes reply e))
 
-pub served_rising : (o : Opened) (last : ℕ) (pairs : List (Event × Reply)) (s : State) (k : Standing) → ServesAll (opened o) (standing_at last) pairs s k
-    → AreRising last (items_of no_writes pairs)
-served_rising o last pairs s k r = all_rising (opened o) (standing_at last) pairs s k r no_writes
+pub served_rising : (o : Opened) (last : ℕ) (made : List RecordValue) (pairs : List (Event × Reply)) (s : State) (k : Standing)
+    → ServesAll (opened o) (standing_at last) pairs made s k → AreRising last (items_of no_writes pairs)
+served_rising o last made pairs s k r = all_rising (opened o) (standing_at last) pairs made s k r no_writes

@@ -20,7 +20,7 @@ use Rattle.model.specs.declared.life.Life.TheVariants.{Absent, Building, Complet
 use Rattle.model.specs.declared.write.Write.{Write}
 use Rattle.core_model.proofs.Cells.{Ends, Replaced, mark_step, put_step, row_step}
 use Rattle.core_model.proofs.Frames.{moved, nat_decided, rid_decided, same_some, txn_apart, txn_here}
-use Rattle.core_model.proofs.Latest.{Gone, Stays, chained_same, gone_is, holds_more, latest_here, latest_other, latest_unnamed, not_none, same_key_is, stays}
+use Rattle.core_model.proofs.Latest.{Gone, Stays, chained_same, gone_is, holds_more, latest_here, latest_other, latest_unnamed, not_none, stays}
 use Rattle.core_model.proofs.Orders.{apart, level, update_apart, update_here, update_twice}
 use Rattle.core_model.specs.Changes.{Changes, Unchanged, gone, latest, as_list, new_pair, old_pair, pair_of, same_key, ◌▹◌}
 use Rattle.core_model.specs.Histories.{write_of}

@@ -1,7 +1,7 @@
 -- The worked script.
-use Rattle.std.proofs.Common.{None, Some, [], ap, arith, false, inl, inr, refl, suc, sym, true≢false, zero, ℕ, ◌+◌, ◌<◌, ◌∷◌, ◌≡◌, ◌≤◌}
+use Rattle.std.proofs.Common.{List, None, Some, [], ap, arith, false, inl, inr, refl, subst, suc, sym, true≢false, zero, ℕ, ◌+◌, ◌<◌, ◌∷◌, ◌≡◌, ◌≤◌}
 use Rattle.std.specs.Cmp.{nat_cmp_is}
-use Rattle.std.specs.FinMap.{get-empty, len-empty}
+use Rattle.std.specs.FinMap.{get, get-empty, len-empty}
 use Rattle.std.specs.Ordering.{is_lt, nat_cmp, ordering_then}
 use Rattle.std.specs.declared.cmp.Ordering.{Ordering}
 use Rattle.std.specs.declared.cmp.Ordering.TheVariants.{Equal, Greater, Less}
@@ -11,16 +11,19 @@ use Rattle.record_values.specs.declared.error.Error.{Error}
 use Rattle.record_values.specs.declared.pair.Mark.{Mark}
 use Rattle.record_values.specs.declared.number.TheConstants.{LAST_NUMBER}
 use Rattle.model.specs.declared.life.Life.TheVariants.{Absent, Building}
-use Rattle.core_model.specs.Events.{Built, Done, Empty, Ended, Event, Rejected, Reply, Scanned, Standing, Txn, Undone, standing_at}
+use Rattle.core_model.specs.Events.{Built, Done, Empty, Ended, Event, Rejected, Reply, Scanned, Standing, Txn, Undone, standing_after, standing_at}
 use Rattle.core_model.specs.Replies.{IsAllowed, IsFirst, IsFree, IsNextPair, accepted}
+use Rattle.core_model.specs.Logs.{next_number, records_from, records_over}
+use Rattle.core_model.specs.Records.{action_of}
 use Rattle.core_model.specs.Served.{ServesAll, nothing, served}
 use Rattle.core_model.specs.Worked.{script, standing}
 use Rattle.core_model.proofs.Example.{a10, a9, first_reserved, is_marked, s1, s2, s3, s4, s5, s6, s7, s8, s9}
 use Rattle.core_model.proofs.Laws.{not_none}
-use Rattle.core_model.specs.Example.{insertion, last, opening, pair, place, row}
+use Rattle.core_model.proofs.Served.{place_none}
+use Rattle.core_model.specs.Example.{insertion, last, opening, pair, place, row, steps}
 use Rattle.core_model.specs.Histories.{opened}
-use Rattle.core_model.specs.States.{Active}
-use Rattle.core_model.specs.Steps.{Attempt, Finish, Start, MachineStep, Take, update}
+use Rattle.core_model.specs.States.{Active, State}
+use Rattle.core_model.specs.Steps.{Attempt, Finish, Start, MachineStep, Take, after, update}
 
 not_last : (n : ℕ) → n ≤ 6 → LAST_NUMBER ≤ n → ⊥
 not_last n l h = omega (arith, l, h)
@@ -156,53 +159,137 @@ allowed_9 = accepted (λ h. h) tt (inr (λ e. building≢absent e, refl)) (Built
   refl,
 ) (nothing_refused 5 (omega arith))
 
-from_9 : ServesAll s9 k9 ((Event.Build, Built (Done 6)) ∷ []) last standing
-from_9 = served {s = s9} {new = last} {k = k9} {next = standing} Event.Build (Built (Done 6)) (Some Finish) [] allowed_9 nothing
+-- a step with its reply, before what is served after it
+one_more : {s new : State} {k next : Standing} (e : Event) (reply : Reply) (step : MachineStep) (rest : List (Event × Reply)) (es : List MachineStep)
+    → IsAllowed s k e reply (Some step) → (standing_after k reply).made ≡ next_number k.made (action_of s step)
+    → ServesAll (after s step) (standing_after k reply) rest (records_from (after s step) (standing_after k reply).made es) new next
+    → ServesAll s k ((e, reply) ∷ rest) (records_from s k.made (step ∷ es)) new next
+one_more {s = s} {new = new} {k = k} {next = next} e reply step rest es allowed number more =
+    served e reply (Some step) rest (records_from (after s step) (next_number k.made (action_of s step)) es) allowed
+    (subst (λ n. ServesAll (after s step) (standing_after k reply) rest (records_from (after s step) n es) new next) number more)
 
-from_8 : ServesAll s8 k8 ((Event.Build, Built (Rejected pair)) ∷ (Event.Build, Built (Done 6)) ∷ []) last standing
-from_8 = served {s = s8} {new = last} {k = k8} {next = standing} Event.Build (Built (Rejected pair)) (Some (Attempt pair))
-    ((Event.Build, Built (Done 6)) ∷ []) allowed_8 from_9
+abbrev script_9 : List (Event × Reply)
+script_9 = (Event.Build, Built (Done 6)) ∷ []
 
-from_7 : ServesAll s7 k7 ((Event.End 1, Ended) ∷ (Event.Build, Built (Rejected pair)) ∷ (Event.Build, Built (Done 6)) ∷ []) last standing
-from_7 = served {s = s7} {new = last} {k = k7} {next = standing} (Event.End 1) Ended (Some (MachineStep.End 1))
-    ((Event.Build, Built (Rejected pair)) ∷ (Event.Build, Built (Done 6)) ∷ []) allowed_7 from_8
+abbrev script_8 : List (Event × Reply)
+script_8 = (Event.Build, Built (Rejected pair)) ∷ script_9
 
-from_6 : ServesAll s6 k6 ((Event.Undo 1, Empty) ∷ (Event.End 1, Ended) ∷ (Event.Build, Built (Rejected pair)) ∷ (Event.Build, Built (Done 6)) ∷ []) last
-    standing
-from_6 = served {s = s6} {new = last} {k = k6} {next = standing} (Event.Undo 1) Empty (Some (MachineStep.Undo 1))
-    ((Event.End 1, Ended) ∷ (Event.Build, Built (Rejected pair)) ∷ (Event.Build, Built (Done 6)) ∷ []) allowed_6 from_7
+abbrev script_7 : List (Event × Reply)
+script_7 = (Event.End 1, Ended) ∷ script_8
 
-from_5 : ServesAll s5 k5 ((Event.Undo 1, Undone) ∷ (Event.Undo 1, Empty) ∷ (Event.End 1, Ended) ∷ (Event.Build, Built (Rejected pair))
-    ∷ (Event.Build, Built (Done 6)) ∷ []) last standing
-from_5 = served {s = s5} {new = last} {k = k5} {next = standing} (Event.Undo 1) Undone (Some (MachineStep.Undo 1))
-    ((Event.Undo 1, Empty) ∷ (Event.End 1, Ended) ∷ (Event.Build, Built (Rejected pair)) ∷ (Event.Build, Built (Done 6)) ∷ []) allowed_5 from_6
+abbrev script_6 : List (Event × Reply)
+script_6 = (Event.Undo 1, Empty) ∷ script_7
 
-from_4 : ServesAll s4 k4 ((Event.Undo 1, Undone) ∷ (Event.Undo 1, Undone) ∷ (Event.Undo 1, Empty) ∷ (Event.End 1, Ended) ∷ (Event.Build, Built (Rejected pair))
-    ∷ (Event.Build, Built (Done 6)) ∷ []) last standing
-from_4 = served {s = s4} {new = last} {k = k4} {next = standing} (Event.Undo 1) Undone (Some (MachineStep.Undo 1))
-    ((Event.Undo 1, Undone) ∷ (Event.Undo 1, Empty) ∷ (Event.End 1, Ended) ∷ (Event.Build, Built (Rejected pair)) ∷ (Event.Build, Built (Done 6)) ∷ [])
-    allowed_4 from_5
+abbrev script_5 : List (Event × Reply)
+script_5 = (Event.Undo 1, Undone) ∷ script_6
 
-from_3 : ServesAll s3 k3 ((Event.Build, Built (Scanned 0)) ∷ (Event.Undo 1, Undone) ∷ (Event.Undo 1, Undone) ∷ (Event.Undo 1, Empty) ∷ (Event.End 1, Ended)
-    ∷ (Event.Build, Built (Rejected pair)) ∷ (Event.Build, Built (Done 6)) ∷ []) last standing
-from_3 = served {s = s3} {new = last} {k = k3} {next = standing} Event.Build (Built (Scanned 0)) (Some (Take 0))
-    ((Event.Undo 1, Undone) ∷ (Event.Undo 1, Undone) ∷ (Event.Undo 1, Empty) ∷ (Event.End 1, Ended) ∷ (Event.Build, Built (Rejected pair))
-    ∷ (Event.Build, Built (Done 6)) ∷ []) allowed_3 from_4
+abbrev script_4 : List (Event × Reply)
+script_4 = (Event.Undo 1, Undone) ∷ script_5
 
-from_2 : ServesAll s2 k2 ((Event.Insert 1 row, Reply.Rid place) ∷ (Event.Build, Built (Scanned 0)) ∷ (Event.Undo 1, Undone) ∷ (Event.Undo 1, Undone)
-    ∷ (Event.Undo 1, Empty) ∷ (Event.End 1, Ended) ∷ (Event.Build, Built (Rejected pair)) ∷ (Event.Build, Built (Done 6)) ∷ []) last standing
-from_2 = served {s = s2} {new = last} {k = k2} {next = standing} (Event.Insert 1 row) (Reply.Rid place) (Some (Start 1 insertion))
-    ((Event.Build, Built (Scanned 0)) ∷ (Event.Undo 1, Undone) ∷ (Event.Undo 1, Undone) ∷ (Event.Undo 1, Empty) ∷ (Event.End 1, Ended)
-    ∷ (Event.Build, Built (Rejected pair)) ∷ (Event.Build, Built (Done 6)) ∷ []) allowed_2 from_3
+abbrev script_3 : List (Event × Reply)
+script_3 = (Event.Build, Built (Scanned 0)) ∷ script_4
 
-from_1 : ServesAll s1 k1 ((Event.Begin, Txn 1) ∷ (Event.Insert 1 row, Reply.Rid place) ∷ (Event.Build, Built (Scanned 0)) ∷ (Event.Undo 1, Undone)
-    ∷ (Event.Undo 1, Undone) ∷ (Event.Undo 1, Empty) ∷ (Event.End 1, Ended) ∷ (Event.Build, Built (Rejected pair)) ∷ (Event.Build, Built (Done 6)) ∷ []) last
-    standing
-from_1 = served {s = s1} {new = last} {k = k1} {next = standing} Event.Begin (Txn 1) (Some (MachineStep.Begin 1))
-    ((Event.Insert 1 row, Reply.Rid place) ∷ (Event.Build, Built (Scanned 0)) ∷ (Event.Undo 1, Undone) ∷ (Event.Undo 1, Undone) ∷ (Event.Undo 1, Empty)
-    ∷ (Event.End 1, Ended) ∷ (Event.Build, Built (Rejected pair)) ∷ (Event.Build, Built (Done 6)) ∷ []) allowed_1 from_2
+abbrev script_2 : List (Event × Reply)
+script_2 = (Event.Insert 1 row, Reply.Rid place) ∷ script_3
 
-pub served_script : ServesAll (opened opening) (standing_at 0) script last standing
-served_script = served {s = opened opening} {new = last} {k = k0} {next = standing} Event.Create (Reply.Ticketed 1) (Some MachineStep.Create)
-    ((Event.Begin, Txn 1) ∷ (Event.Insert 1 row, Reply.Rid place) ∷ (Event.Build, Built (Scanned 0)) ∷ (Event.Undo 1, Undone) ∷ (Event.Undo 1, Undone)
-    ∷ (Event.Undo 1, Empty) ∷ (Event.End 1, Ended) ∷ (Event.Build, Built (Rejected pair)) ∷ (Event.Build, Built (Done 6)) ∷ []) allowed_0 from_1
+abbrev script_1 : List (Event × Reply)
+script_1 = (Event.Begin, Txn 1) ∷ script_2
+
+abbrev steps_9 : List MachineStep
+steps_9 = Finish ∷ []
+
+abbrev steps_8 : List MachineStep
+steps_8 = Attempt pair ∷ steps_9
+
+abbrev steps_7 : List MachineStep
+steps_7 = MachineStep.End 1 ∷ steps_8
+
+abbrev steps_6 : List MachineStep
+steps_6 = MachineStep.Undo 1 ∷ steps_7
+
+abbrev steps_5 : List MachineStep
+steps_5 = MachineStep.Undo 1 ∷ steps_6
+
+abbrev steps_4 : List MachineStep
+steps_4 = MachineStep.Undo 1 ∷ steps_5
+
+abbrev steps_3 : List MachineStep
+steps_3 = Take 0 ∷ steps_4
+
+abbrev steps_2 : List MachineStep
+steps_2 = Start 1 insertion ∷ steps_3
+
+abbrev steps_1 : List MachineStep
+steps_1 = MachineStep.Begin 1 ∷ steps_2
+
+number_9 : 6 ≡ next_number 5 (action_of s9 Finish)
+unfolding update
+number_9 = refl
+
+number_8 : 5 ≡ next_number 5 (action_of s8 (Attempt pair))
+unfolding update
+number_8 = place_none pair (get s8.entries pair) (λ e. not_none is_marked e) 5
+
+number_7 : 5 ≡ next_number 4 (action_of s7 (MachineStep.End 1))
+unfolding update
+number_7 = refl
+
+number_6 : 4 ≡ next_number 4 (action_of s6 (MachineStep.Undo 1))
+unfolding update
+number_6 = refl
+
+number_5 : 4 ≡ next_number 3 (action_of s5 (MachineStep.Undo 1))
+unfolding update
+number_5 = refl
+
+number_4 : 3 ≡ next_number 2 (action_of s4 (MachineStep.Undo 1))
+unfolding update
+number_4 = refl
+
+number_3 : 2 ≡ next_number 2 (action_of s3 (Take 0))
+unfolding update
+number_3 = refl
+
+number_2 : 2 ≡ next_number 1 (action_of s2 (Start 1 insertion))
+unfolding update
+number_2 = refl
+
+number_1 : 1 ≡ next_number 1 (action_of s1 (MachineStep.Begin 1))
+unfolding update
+number_1 = refl
+
+number_0 : 1 ≡ next_number 0 (action_of (opened opening) MachineStep.Create)
+unfolding update
+number_0 = refl
+
+from_9 : ServesAll s9 k9 script_9 (records_from s9 5 steps_9) last standing
+from_9 = one_more {s = s9} {new = last} {k = k9} {next = standing} Event.Build (Built (Done 6)) Finish [] [] allowed_9 number_9 nothing
+
+from_8 : ServesAll s8 k8 script_8 (records_from s8 5 steps_8) last standing
+from_8 = one_more {s = s8} {new = last} {k = k8} {next = standing} Event.Build (Built (Rejected pair)) (Attempt pair) script_9 steps_9 allowed_8 number_8 from_9
+
+from_7 : ServesAll s7 k7 script_7 (records_from s7 4 steps_7) last standing
+from_7 = one_more {s = s7} {new = last} {k = k7} {next = standing} (Event.End 1) Ended (MachineStep.End 1) script_8 steps_8 allowed_7 number_7 from_8
+
+from_6 : ServesAll s6 k6 script_6 (records_from s6 4 steps_6) last standing
+from_6 = one_more {s = s6} {new = last} {k = k6} {next = standing} (Event.Undo 1) Empty (MachineStep.Undo 1) script_7 steps_7 allowed_6 number_6 from_7
+
+from_5 : ServesAll s5 k5 script_5 (records_from s5 3 steps_5) last standing
+from_5 = one_more {s = s5} {new = last} {k = k5} {next = standing} (Event.Undo 1) Undone (MachineStep.Undo 1) script_6 steps_6 allowed_5 number_5 from_6
+
+from_4 : ServesAll s4 k4 script_4 (records_from s4 2 steps_4) last standing
+from_4 = one_more {s = s4} {new = last} {k = k4} {next = standing} (Event.Undo 1) Undone (MachineStep.Undo 1) script_5 steps_5 allowed_4 number_4 from_5
+
+from_3 : ServesAll s3 k3 script_3 (records_from s3 2 steps_3) last standing
+from_3 = one_more {s = s3} {new = last} {k = k3} {next = standing} Event.Build (Built (Scanned 0)) (Take 0) script_4 steps_4 allowed_3 number_3 from_4
+
+from_2 : ServesAll s2 k2 script_2 (records_from s2 1 steps_2) last standing
+from_2 = one_more {s = s2} {new = last} {k = k2} {next = standing} (Event.Insert 1 row) (Reply.Rid place) (Start 1 insertion)
+    script_3 steps_3 allowed_2 number_2 from_3
+
+from_1 : ServesAll s1 k1 script_1 (records_from s1 1 steps_1) last standing
+from_1 = one_more {s = s1} {new = last} {k = k1} {next = standing} Event.Begin (Txn 1) (MachineStep.Begin 1) script_2 steps_2 allowed_1 number_1 from_2
+
+pub served_script : ServesAll (opened opening) (standing_at 0) script (records_over opening steps) last standing
+served_script = one_more {s = opened opening} {new = last} {k = k0} {next = standing} Event.Create (Reply.Ticketed 1) MachineStep.Create
+    script_1 steps_1 allowed_0 number_0 from_1

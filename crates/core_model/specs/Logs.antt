@@ -13,12 +13,12 @@ use Rattle.core_model.specs.Records.{HasCells, action_of}
 use Rattle.core_model.specs.States.{State}
 use Rattle.core_model.specs.Steps.{MachineStep, after}
 
--- behind the record `last`
+-- the number of the last record after this action, where it was `last` before
 abbrev pub next_number : ℕ → Option Action → ℕ
 next_number last None = last
 next_number last (Some action) = last + 1
 
--- the record of this action behind the last one; none where there is no action
+-- the record of this action, after the record `last`; none where there is no action
 abbrev pub one_record : ℕ → Option Action → List RecordValue
 one_record last None = []
 one_record last (Some action) = record { number = last + 1; action = action } ∷ []
@@ -69,7 +69,7 @@ pub record HasMade (o : Opened) (made : List RecordValue) (items : List Item) (w
   pub asked : writes ≡ writes_over no_writes steps
   pub in_order : AreFollowing o.pages o.given.last (opening_cells o.given) made
 
--- The records behind the record `base`, made over these cells, each of which could follow the one before, set what the
+-- The records after the record `base`, made over these cells, each of which could follow the one before, set what the
 -- state has.
 pub record IsLogOf (pages base : ℕ) (cells : Cells) (log : List RecordValue) (s : State) : Type 0 where
   pub set : HasCells s (cells_after cells log)

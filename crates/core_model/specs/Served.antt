@@ -1,14 +1,15 @@
 -- Lists of events with their replies, and the history that they tell.
 use Rattle.std.specs.FinMap.{len}
 use Rattle.std.specs.Ordering.{nat_cmp}
-use Rattle.std.specs.Prelude.{List, None, Option, Some, [], false, length, map, true, ℕ, ◌++◌, ◌+◌, ◌<◌, ◌∷◌, ◌≡◌, ◌≢◌}
-use Rattle.std.specs.Prelude.{◌≤◌}
+use Rattle.std.specs.Prelude.{List, None, Option, Some, [], false, length, map, take, true, ℕ, ◌++◌, ◌+◌, ◌-◌, ◌<◌, ◌∷◌}
+use Rattle.std.specs.Prelude.{◌≡◌, ◌≢◌, ◌≤◌}
 use Rattle.records.specs.RecordValue.{RecordValue}
 use Rattle.record_values.specs.Values.{Place}
 use Rattle.record_values.specs.declared.number.TheConstants.{LAST_NUMBER}
 use Rattle.record_values.specs.declared.txn.TheConstants.{TXNS_MAX}
 use Rattle.record_values.specs.declared.pair.Pair.{Pair}
 use Rattle.record_values.specs.declared.row.Row.{Row}
+use Rattle.model.specs.Given.{Given, given_after}
 use Rattle.model.specs.History.{Deed, Item}
 use Rattle.model.specs.declared.write.Write.{Write}
 use Rattle.core_model.specs.Events.{BuildReply, Built, Cleaner, Done, Empty, Ended, Event, Found, Idle, LifeIs}
@@ -22,12 +23,28 @@ use Rattle.core_model.specs.Invariants.{IsWellFormed}
 use Rattle.core_model.specs.States.{Active, State}
 use Rattle.core_model.specs.Steps.{IsBuilding, IsEnabled, MachineStep, update}
 
--- one event after another, each with an allowed reply
-pub data ServesAll : State → Standing → List (Event × Reply) → State → Standing → Type 0 where
-  nothing : {s : State} {k : Standing} → ServesAll s k [] s k
+-- the record of a step after the record `last`; none where no step is made, or one that makes no record
+abbrev pub records_by : State → ℕ → Option MachineStep → List RecordValue
+records_by s last None = []
+records_by s last (Some e) = one_record last (action_of s e)
+
+-- One event after another, each with an allowed reply; and the records that are made with these replies, in their
+-- order.
+pub data ServesAll : State → Standing → List (Event × Reply) → List RecordValue → State → Standing → Type 0 where
+  nothing : {s : State} {k : Standing} → ServesAll s k [] [] s k
   served : {s new : State} {k next : Standing} (e : Event) (reply : Reply) (step : Option MachineStep)
-      (rest : List (Event × Reply)) → IsAllowed s k e reply step
-      → ServesAll (after_any s step) (standing_after k reply) rest new next → ServesAll s k ((e, reply) ∷ rest) new next
+      (rest : List (Event × Reply)) (made : List RecordValue) → IsAllowed s k e reply step
+      → ServesAll (after_any s step) (standing_after k reply) rest made new next
+      → ServesAll s k ((e, reply) ∷ rest) (records_by s k.made step ++ made) new next
+
+-- What is given is what the first of the records that are made with these replies, up to its last one, make of what was
+-- opened: so its entries are, marked ones too.
+pub record IsMadeOf (o : Opened) (pairs : List (Event × Reply)) (given : Given) : Type 0 where
+  pub made : List RecordValue
+  pub state : State
+  pub standing : Standing
+  pub served : ServesAll (opened o) (standing_at o.given.last) pairs made state standing
+  pub same : given ≡ given_after o.given (take (given.last - o.given.last) made)
 
 -- a transaction is asked for one write more
 abbrev pub one_write : (ℕ → List Write) → ℕ → Place → Option Row → ℕ → List Write
@@ -148,21 +165,16 @@ pub record HasStanding (s : State) (k : Standing) : Type 0 where
   pub counts : HasCounts s k
   pub within : k.made ≤ LAST_NUMBER
 
--- the records of a step, or of none, behind the record `last`
-abbrev pub records_by : State → ℕ → Option MachineStep → List RecordValue
-records_by s last None = []
-records_by s last (Some e) = one_record last (action_of s e)
-
 -- what was asked of each transaction, after these events and replies
 abbrev pub asked_over : (ℕ → List Write) → List (Event × Reply) → ℕ → List Write
 asked_over writes [] = writes
 asked_over writes (p ∷ rest) = asked_over (asked_after writes p.1 p.0) rest
 
--- The core has replied to these events so since it was opened, each reply one that was allowed then; and it made these
--- records, of which the history is theirs.
+-- The core has replied to these events so since it was opened, each reply one that was allowed then. These are the
+-- records that it made with them, in the order of the replies, and their history is the one that the replies tell.
 pub record HasServed (o : Opened) (made : List RecordValue) (pairs : List (Event × Reply)) (s : State)
     (k : Standing) : Type 0 where
-  pub served : ServesAll (opened o) (standing_at o.given.last) pairs s k
+  pub served : ServesAll (opened o) (standing_at o.given.last) pairs made s k
   pub log : HasMade o made (items_of no_writes pairs) (asked_over no_writes pairs) s
   pub number : k.made ≡ o.given.last + length made
   pub standing : HasStanding s k

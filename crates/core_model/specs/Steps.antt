@@ -7,7 +7,7 @@ use Rattle.std.specs.Prelude.{◌+◌, ◌-◌, ◌<◌, ◌||◌, ◌≡◌, �
 use Rattle.std.specs.declared.cmp.Ordering.{Ordering}
 use Rattle.records.specs.ChangeValue.{ChangeValue}
 use Rattle.record_values.specs.Maps.{set_at}
-use Rattle.record_values.specs.Orders.{is_above, pair_cmp, rid_cmp}
+use Rattle.record_values.specs.Orders.{is_above, rid_cmp}
 use Rattle.records.specs.Spelling.{new_row, old_row}
 use Rattle.record_values.specs.declared.pair.Mark.TheVariants.{Live, Marked}
 use Rattle.record_values.specs.declared.pair.Pair.{Pair}

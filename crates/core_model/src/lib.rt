@@ -7,8 +7,9 @@
 //! (`each_record_follows`). Pairs are attempted in rising order (`rising_attempts`). An allowed reply is one step or
 //! none (`each_reply`). Worked examples show that the premises can be met (`undone_insertion_is_rejected`,
 //! `undone_insertion_is_served`). `IsAllowed` says which reply each event may get in a state, and the step that is made
-//! with it; `items_of` which history events and replies tell. Nothing here runs. That code makes these steps, and
-//! replies so, is the contract of `nsf_core`.
+//! with it; `items_of` which history events and replies tell. The replies decide which records are made with them, so
+//! what some of these make, entries and all, is decided by how many they are (`all_replies`). Nothing here runs. That
+//! code makes these steps, and replies so, is the contract of `nsf_core`.
 //!
 //! Lemmas about its public words that crates above may cite, in `proofs`: `Laws` and `ReplyLaws`.
 #![tactic(auto)]

@@ -5,11 +5,12 @@ ghost use Rattle.core_model.specs.States.{State};
 ghost use Rattle.records.specs.RecordValue.{RecordValue};
 ghost use Rattle.record_values.specs.declared.number.TheConstants.{LAST_NUMBER};
 ghost use Rattle.record_values.specs.declared.txn.TheConstants.{TXNS_MAX};
-ghost use Rattle.model.specs.Given.{IsBeginning, given_after};
+ghost use Rattle.model.specs.Given.{Given, IsBeginning, given_after};
 ghost use Rattle.core_model.specs.Events.{Event, Reply, Standing, standing_after, standing_at};
 ghost use Rattle.core_model.specs.Worked.{script, standing};
-ghost use Rattle.core_model.specs.Example.{opening, last, pair};
-ghost use Rattle.core_model.specs.Served.{HasServed, HasStanding, IsMove, ServesAll, items_of, records_by};
+ghost use Rattle.core_model.specs.Example.{opening, last, pair, steps};
+ghost use Rattle.core_model.specs.Logs.{records_over};
+ghost use Rattle.core_model.specs.Served.{HasServed, HasStanding, IsMadeOf, IsMove, ServesAll, items_of, records_by};
 ghost use Rattle.core_model.specs.Replies.{IsAllowed, after_any};
 ghost use Rattle.core_model.specs.Steps.{MachineStep, after};
 ghost use Rattle.core_model.specs.Invariants.{IsWellFormed};
@@ -52,18 +53,25 @@ pub fn each_service()
         (given_after o.given (take n handed)) × CanOpen (record o { given = given_after o.given (take n handed) }) }
 {}
 
-/// A law: so it is of a list of events, each with an allowed reply; and the numbers of the items rise.
+/// A law: so it is of a list of events, each with an allowed reply; and the numbers of the items rise. The replies
+/// decide which records are made with them: so what is made of some of these records, entries and all, is decided by
+/// how many they are.
 pub fn all_replies()
     ensures log { (o : Opened) → CanOpen o → o.given.last ≤ LAST_NUMBER
-        → (pairs : List (Event × Reply)) (s : State) (k : Standing)
-        → ServesAll (opened o) (standing_at o.given.last) pairs s k → (made : List RecordValue)
-        × HasServed o made pairs s k }
-    ensures rising { (o : Opened) (last : ℕ) (pairs : List (Event × Reply)) (s : State) (k : Standing)
-        → ServesAll (opened o) (standing_at last) pairs s k → AreRising last (items_of no_writes pairs) }
+        → (made : List RecordValue) (pairs : List (Event × Reply)) (s : State) (k : Standing)
+        → ServesAll (opened o) (standing_at o.given.last) pairs made s k → HasServed o made pairs s k }
+    ensures rising { (o : Opened) (last : ℕ)
+        (made : List RecordValue) (pairs : List (Event × Reply)) (s : State) (k : Standing)
+        → ServesAll (opened o) (standing_at last) pairs made s k → AreRising last (items_of no_writes pairs) }
+    ensures one { (o : Opened) (last : ℕ) (pairs : List (Event × Reply)) (made more : List RecordValue)
+        (s t : State) (k l : Standing) → ServesAll (opened o) (standing_at last) pairs made s k
+        → ServesAll (opened o) (standing_at last) pairs more t l → made ≡ more }
+    ensures pinned { (o : Opened) (pairs : List (Event × Reply)) (given other : Given) → IsMadeOf o pairs given
+        → IsMadeOf o pairs other → given.last ≡ other.last → given ≡ other }
 {}
 
 /// A law: an insertion is undone while the index is built, after the builder took its page: each reply is allowed,
 /// and the builder's insertion of the pair is rejected.
 pub fn undone_insertion_is_served()
-    ensures { ServesAll (opened opening) (standing_at 0) script last standing }
+    ensures { ServesAll (opened opening) (standing_at 0) script (records_over opening steps) last standing }
 {}

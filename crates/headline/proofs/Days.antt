@@ -2,6 +2,7 @@
 use Rattle.std.proofs.Common.{◌≡◌, ℕ, ◌≤◌, ◌-◌, if◌then◌else◌, List, [], ◌∷◌, ◌++◌, length, take, refl, sym, ap, subst, ◌∙◌, arith}
 use Rattle.std.specs.List.{All}
 use Rattle.record_values.specs.GeometryValue.{GeometryValue}
+use Rattle.records.specs.RecordValue.{RecordValue}
 use Rattle.model.specs.Given.{Given}
 use Rattle.model.specs.History.{AreRising, Item, life_after, table_after, up_to}
 use Rattle.core_model.specs.Histories.{no_writes}
@@ -41,15 +42,15 @@ day_last failures g began (d ∷ days) (a ∷ answers) mid new last answer are d
 -- ---- a day that was served
 
 -- the standing that is told by the replies
-stands_over : {s new : State} {k next : Standing} {pairs : List (core.Event × core.Reply)} → ServesAll s k pairs new next
+stands_over : {s new : State} {k next : Standing} {pairs : List (core.Event × core.Reply)} {made : List RecordValue} → ServesAll s k pairs made new next
     → next ≡ standing_over k pairs
 stands_over nothing = refl
-stands_over (served e reply step rest allowed more) = stands_over more
+stands_over (served e reply step rest later allowed more) = stands_over more
 
 -- the numbers of the items that allowed replies tell rise
 abbrev pub Rise : Type 0
-Rise = (o : Opened) (last : ℕ) (pairs : List (core.Event × core.Reply)) (s : State) (k : core.Standing) → ServesAll (opened o) (standing_at last) pairs s k
-    → AreRising last (items_of no_writes pairs)
+Rise = (o : Opened) (last : ℕ) (made : List RecordValue) (pairs : List (core.Event × core.Reply)) (s : State) (k : core.Standing)
+    → ServesAll (opened o) (standing_at last) pairs made s k → AreRising last (items_of no_writes pairs)
 
 module _ {D M : Type 0} (past_of : D → DevicePast) (failures : D → ℕ) (g : GeometryValue) (given : Given) (failed : ℕ) (day : Day M)
     (replies : List (Reply M)) (before after : EngineParts D M) (begins : IsOpenedOver failures g (resting given failed) before)
@@ -65,7 +66,7 @@ module _ {D M : Type 0} (past_of : D → DevicePast) (failures : D → ℕ) (g :
 
   they_rise : AreRising given.last items
   they_rise = subst (AreRising given.last) (sym told)
-      (rise (over g given) given.last (core_calls day.requests.items replies) at.state at.standing at.served.served)
+      (rise (over g given) given.last at.made (core_calls day.requests.items replies) at.state at.standing at.served.served)
 
   abbrev kept : List Item
   kept = up_to left.given.last items
@@ -103,7 +104,5 @@ module _ {D M : Type 0} (past_of : D → DevicePast) (failures : D → ℕ) (g :
     made = made;
     rows = left.beginning.table ∙ sym (ap (λ (l : List Item). table_after given.table (up_to left.given.last l)) told);
     life = left.beginning.life ∙ sym (ap (λ (l : List Item). life_after given.life (up_to left.given.last l)) told);
-    records =
-        let is = left.records in
-        record { made = is.made; state = is.state; standing = is.standing; served = is.served; same = is.same };
+    records = left.records;
   }

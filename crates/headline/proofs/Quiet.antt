@@ -59,9 +59,10 @@ take_none (suc n) = refl
 none_of : (m n : ℕ) (l : List RecordValue) → l ≡ [] → take n (drop m l) ≡ []
 none_of m n l none = ap (λ (x : List RecordValue). take n (drop m x)) none ∙ ap (take n) (drop_none m) ∙ take_none n
 
-stands_still : {s new : State} {k next : Standing} {pairs : List (core.Event × core.Reply)} → ServesAll s k pairs new next → pairs ≡ [] → next ≡ k
+stands_still : {s new : State} {k next : Standing} {pairs : List (core.Event × core.Reply)} {made : List RecordValue} → ServesAll s k pairs made new next
+    → pairs ≡ [] → next ≡ k
 stands_still nothing none = refl
-stands_still (served e reply step rest allowed more) none = absurd cc
+stands_still (served e reply step rest later allowed more) none = absurd cc
 
 pub none_waits : {D M : Type 0} (past_of : D → DevicePast) (g : GeometryValue) (given : Given) (engine : EngineParts D M)
     → IsAt past_of (opening g given) engine → horizon_of engine ≡ given.last → unwritten engine ≡ []
@@ -95,10 +96,10 @@ one_still s k reply step (no_memory not proper first r st due last wants) = refl
 one_still s k reply step (accepted not proper first r st due last) =
     ap (λ (x : core.Reply). (standing_after k x).active) due.2 ∙ begun_still k due.0
 
-builds_still : {s new : State} {k next : Standing} {pairs : List (core.Event × core.Reply)} → ServesAll s k pairs new next → AreBuilds pairs
-    → next.active ≡ k.active
+builds_still : {s new : State} {k next : Standing} {pairs : List (core.Event × core.Reply)} {made : List RecordValue} → ServesAll s k pairs made new next
+    → AreBuilds pairs → next.active ≡ k.active
 builds_still nothing are = refl
-builds_still {s = s} {k = k} (served e reply step rest allowed more) are =
+builds_still {s = s} {k = k} (served e reply step rest later allowed more) are =
     builds_still more are.1 ∙ one_still s k reply step (subst (λ (x : core.Event). IsAllowed s k x reply step) are.0 allowed)
 
 one_call : (answer : Option core.Reply) (rest : List (core.Event × core.Reply)) → AreBuilds rest → AreBuilds (both (Some core.Build) answer ++ rest)

@@ -6,15 +6,10 @@ use Rattle.std.specs.declared.vec.Vec.{Vec}
 use Rattle.record_values.specs.GeometryValue.{GeometryValue}
 use Rattle.record_values.specs.declared.error.Error.{Error}
 use Rattle.record_values.specs.declared.error.Error.TheVariants.{DeviceFailed, NoMemory}
-use Rattle.records.specs.RecordValue.{RecordValue}
-use Rattle.model.specs.Given.{given_after}
 use Rattle.model.specs.History.{Item, life_after, table_after}
-use Rattle.core_model.specs.Events.{Standing}
 use Rattle.core_model.specs.Histories.{no_writes}
-use Rattle.core_model.specs.Served.{HasServed}
-use Rattle.core_model.specs.States.{State}
+use Rattle.core_model.specs.Served.{IsMadeOf}
 use Rattle.sector_device.specs.DevicePast.{Rises}
-use Rattle.restart.specs.declared.event.Event.{Event}
 use Rattle.restart.specs.declared.event.Reply.{Reply}
 use Rattle.restart.specs.declared.parts.EngineParts.{EngineParts}
 use Rattle.restart.specs.Lawful.{AreLawful}
@@ -29,19 +24,11 @@ use Rattle.headline.specs.Told.{acknowledged, told_over}
 abbrev pub Answer : Type 0 → Type 0
 Answer M = Result (Vec (Reply M) M) Error
 
--- There are records that tell what these replies tell, and that lead where they lead. The store is what the first of
--- them, up to its last one, make of what it was: so its entries are, marked ones too.
-pub record IsMadeOf {M : Type 0} (geometry : GeometryValue) (old : AtRest) (requests : List Event)
-    (replies : List (Reply M)) (new : AtRest) : Type 0 where
-  pub made : List RecordValue
-  pub state : State
-  pub standing : Standing
-  pub served : HasServed (over geometry (given_of old)) made (core_calls requests replies) state standing
-  pub same : given_of new ≡ given_after (given_of old) (take (new.last - old.last) made)
-
 -- The store was opened, and each request of the day had a lawful reply. Records were kept up to a last one, which the
 -- day began with or made. Each that was acknowledged before the store stopped is among them. (A day that ends within
--- stopped before its last reply.) Of what the replies tell, just the items up to that record were kept.
+-- stopped before its last reply.) Of what the replies tell, just the items up to that record were kept. The store is
+-- what the records that were made with these replies, up to that record, make of what it was: so its entries are,
+-- marked ones too.
 pub record IsServed {D M : Type 0} (failures : D → ℕ) (geometry : GeometryValue) (old : AtRest) (day : Day M)
     (replies : List (Reply M)) (new : AtRest) : Type 0 where
   pub opened : EngineParts D M
@@ -59,7 +46,7 @@ pub record IsServed {D M : Type 0} (failures : D → ℕ) (geometry : GeometryVa
   pub made : new.last ≤ (core_of closed).last
   pub rows : new.rows ≡ table_after old.rows kept
   pub life : new.life ≡ life_after old.life kept
-  pub records : IsMadeOf geometry old day.requests.items replies new
+  pub records : IsMadeOf (over geometry (given_of old)) (core_calls day.requests.items replies) (given_of new)
 
 -- why a store wasn't opened: there was no memory, or a call of the device failed
 abbrev pub IsUnopened : Error → (before now : ℕ) → Type 0

@@ -15,6 +15,7 @@ use Rattle.core_model.specs.Records.{HasCells, IsListOf}
 use Rattle.core_model.specs.States.{State}
 use Rattle.core_model.specs.Events.{standing_at}
 use Rattle.core_model.proofs.ReplyLaws.{served_nothing}
+use Rattle.core_model.specs.Served.{IsMadeOf}
 use Rattle.core_parts.specs.View.{CoreValue}
 use Rattle.core_copies.specs.Loaded.{holding}
 use Rattle.sector_device.specs.Disk.{Disk, CrashState, IsCrashState, IsSynced}
@@ -32,11 +33,12 @@ use Rattle.store_writer.specs.Writer.{IsOpenedAt, IsWriter, opened_run}
 use Rattle.store_writer.specs.declared.copying.Copying.TheVariants.{Idle}
 use Rattle.restart.specs.declared.parts.EngineParts.{EngineParts}
 use Rattle.restart.specs.Building.{HasCome}
+use Rattle.restart.specs.History.{core_calls}
 use Rattle.restart.specs.Parts.{core_of, device_of, horizon_of, writer_of}
 use Rattle.restart.specs.Reopening.{BeginsOver, IsCoreOf, IsOpened, IsTurned, Recovers, opening}
 use Rattle.restart.specs.Migrating.{IsMigrated}
 use Rattle.restart.proofs.Numbers.{count_to_end}
-use Rattle.restart.specs.Store.{CanRun, IsAt, IsMadeOf, Past, StandsAt, Survives, items_told, over, run_of}
+use Rattle.restart.specs.Store.{CanRun, IsAt, Past, StandsAt, Survives, items_told, over, run_of}
 
 -- a core over what is given has its cells
 begins_with : (pages places : ℕ) (given : Given) → HasCells (opened (record { given = given; pages = pages; places = places })) (opening_cells given)
@@ -113,7 +115,7 @@ module _ {D M : Type 0} (past_of : D → DevicePast) (before : CrashState) (engi
     given = is.given;
     beginning = subst (λ (x : Given). IsBeginning past.given (items_told past) floor x) (sym same) left.beginning;
     within = omega (arith, left.within, ap (λ (x : Given). x.last) same);
-    records = subst (λ (x : Given). IsMadeOf past x) (sym same) left.records;
+    records = subst (IsMadeOf (over past.geometry past.given) (core_calls past.events past.replies)) (sym same) left.records;
     core = is.holds ∙ ap (λ (x : GeometryValue). holding x is.given) same_size;
     opens = can_past;
     begins = subst (λ (x : GeometryValue). IsAt past_of (opening x is.given) engine) same_size (begins_at can);

@@ -49,7 +49,7 @@ module _ {M : Type 0} (past : Past M) (made : List RecordValue) (s : State) (k :
     last_within : n ≤ last_made past
     last_within =
         let told : k.made ≡ last_made past = ap (λ (x : Standing). x.made)
-        (stands_over (opened (over past.geometry past.given)) (standing_at past.given.last) (core_calls past.events past.replies) s k has.served) in
+        (stands_over (opened (over past.geometry past.given)) (standing_at past.given.last) (core_calls past.events past.replies) made s k has.served) in
         omega (arith, high, told, has.number)
 
   pub survives : (handed n floor : ℕ) (image : CrashState) → handed ≤ end_of (run_of past made) → past.given.last ≤ n → floor ≤ n
@@ -61,7 +61,7 @@ module _ {M : Type 0} (past : Past M) (made : List RecordValue) (s : State) (k :
         (lower_floor past.given (items_told past) (past.given.last + (left.number - past.given.last)) floor
         (given_after past.given (records_to (run_of past made) left.number)) both.0 (omega (arith, reached, left.least)));
     within = last_within left.number (omega (arith, low, left.least)) (omega (arith, left.most, within));
-    records = record { made = made; state = s; standing = k; served = has; same = sym same };
+    records = record { made = made; state = s; standing = k; served = has.served; same = sym same };
     opens = subst (λ (g : Given). CanOpen (over past.geometry g)) same both.1;
   }
     where

@@ -1,5 +1,6 @@
 -- A run goes on by a request and its reply.
 use Rattle.std.proofs.Common.{◌≡◌, ℕ, max, List, [], ◌∷◌, ◌++◌, length, refl, sym, ap, ◌∙◌, append-nil, append_assoc, arith}
+use Rattle.records.specs.RecordValue.{RecordValue}
 use Rattle.core_model.specs.Events as core
 use Rattle.core_model.specs.Events.{Standing, standing_after}
 use Rattle.core_model.specs.Replies.{after_any}
@@ -50,7 +51,8 @@ acknowledged_both n (reply.Skipped ∷ replies) more = acknowledged_both n repli
 acknowledged_both n (reply.Refused e ∷ replies) more = acknowledged_both n replies more
 
 -- the standing is what the replies leave
-pub stands_over : (s : State) (k : Standing) (calls : List (core.Event × core.Reply)) (s' : State) (k' : Standing) → ServesAll s k calls s' k'
-    → k' ≡ standing_over k calls
-stands_over s k calls s' k' nothing = refl
-stands_over s k calls s' k' (served e reply step rest allowed more) = stands_over (after_any s step) (standing_after k reply) rest s' k' more
+pub stands_over : (s : State) (k : Standing) (calls : List (core.Event × core.Reply)) (made : List RecordValue) (s' : State) (k' : Standing)
+    → ServesAll s k calls made s' k' → k' ≡ standing_over k calls
+stands_over s k calls made s' k' nothing = refl
+stands_over s k calls made s' k' (served e reply step rest later allowed more) =
+    stands_over (after_any s step) (standing_after k reply) rest later s' k' more

@@ -15,6 +15,7 @@ use Rattle.store_opener.specs.Reopening.{ReopeningLeaves, IsWrittenBack}
 use Rattle.core_copies.specs.Loaded.{holding}
 use Rattle.core_model.specs.Histories.{CanOpen, opened}
 use Rattle.core_model.specs.Events.{standing_at}
+use Rattle.core_model.specs.Served.{IsMadeOf}
 use Rattle.core_parts.specs.View.{CoreValue, IsState}
 use Rattle.store_writer.specs.Writer.{IsOpenedAt, IsWriter, opened_run}
 use Rattle.restart.specs.declared.parts.EngineParts.{EngineParts}
@@ -22,7 +23,8 @@ use Rattle.store_writer.specs.Parts.{halves_of, image_of}
 use Rattle.store_writer.specs.declared.copying.Copying.TheVariants.{Idle}
 use Rattle.restart.specs.Parts.{copying_of, core_of, device_of, log_of, horizon_of, has_failed, writer_of}
 use Rattle.restart.specs.Building.{HasCome}
-use Rattle.restart.specs.Store.{IsMadeOf, Past, items_told, last_made, over, Survives, IsAt}
+use Rattle.restart.specs.History.{core_calls}
+use Rattle.restart.specs.Store.{Past, items_told, last_made, over, Survives, IsAt}
 
 -- a run that has not begun, over what a store gives
 abbrev pub opening : {M : Type 0} → GeometryValue → Given → Past M
@@ -75,15 +77,16 @@ pub record IsNotOpened {D : Type 0} (past_of : D → DevicePast) (failures : D
   pub later : failures before ≤ failures after
 
 -- The engine holds a prefix of the run's history, which has every item up to the floor and no record past the last that
--- the run made, and no transaction; just what the run's records up to there make. And what it holds is something that a
--- core may begin with: as far as the index is built, it shows the pair of each row, and no other. A run begins over it;
--- and the core has come to where it is, so that a build that goes on to its end leaves the index whole.
+-- the run made, and no transaction: just what the records that were made with the run's replies, up to there, make of
+-- what the run began with. And what it holds is something that a core may begin with: as far as the index is built, it
+-- shows the pair of each row, and no other. A run begins over it; and the core has come to where it is, so that a build
+-- that goes on to its end leaves the index whole.
 pub record Recovers {D M : Type 0} (past_of : D → DevicePast) (past : Past M) (floor : ℕ)
     (engine : EngineParts D M) : Type 0 where
   pub given : Given
   pub beginning : IsBeginning past.given (items_told past) floor given
   pub within : given.last ≤ last_made past
-  pub records : IsMadeOf past given
+  pub records : IsMadeOf (over past.geometry past.given) (core_calls past.events past.replies) given
   pub core : core_of engine ≡ holding past.geometry given
   pub opens : CanOpen (over past.geometry given)
   pub begins : IsAt past_of (opening past.geometry given) engine

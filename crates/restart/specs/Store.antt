@@ -1,16 +1,16 @@
 -- What the store has done so far, and what a crash of its device leaves.
-use Rattle.std.specs.Prelude.{max, ◌≡◌, ◌≢◌, ◌⊎◌, ◌≤◌, ◌+◌, ◌-◌, ℕ, List, [], ◌∷◌, ◌++◌, length, take}
+use Rattle.std.specs.Prelude.{max, ◌≡◌, ◌≢◌, ◌⊎◌, ◌≤◌, ◌+◌, ℕ, List, [], ◌∷◌, ◌++◌, length, take}
 use Rattle.std.specs.Prelude.{None}
 use Rattle.record_values.specs.GeometryValue.{GeometryValue}
 use Rattle.records.specs.RecordValue.{RecordValue}
-use Rattle.model.specs.Given.{Given, IsBeginning, given_after, opening_cells}
+use Rattle.model.specs.Given.{Given, IsBeginning, opening_cells}
 use Rattle.model.specs.History.{Item}
 use Rattle.core_model.specs.Histories.{CanOpen, Opened, no_writes}
 use Rattle.core_model.specs.Logs.{IsLogOf}
 use Rattle.core_model.specs.States.{State}
 use Rattle.core_model.specs.Events.{Standing, standing_at}
 use Rattle.core_model.specs.Served as told
-use Rattle.core_model.specs.Served.{HasServed}
+use Rattle.core_model.specs.Served.{HasServed, IsMadeOf}
 use Rattle.core_parts.specs.View.{IsState}
 use Rattle.store_image_model.specs.Run.{Run, end_of, records_between}
 use Rattle.sector_device.specs.Disk.{CrashState, IsCrashState}
@@ -59,23 +59,15 @@ last_made past = (standing_over (standing_at past.given.last) (core_calls past.e
 abbrev pub and_then : {M : Type 0} → Past M → List Event → List (Reply M) → Past M
 and_then past events replies = record past { events = past.events ++ events; replies = past.replies ++ replies }
 
--- What is given is what the records that the run made, up to the last one that it has, make of what the run began with:
--- so its entries are, marked ones too.
-pub record IsMadeOf {M : Type 0} (past : Past M) (given : Given) : Type 0 where
-  pub made : List RecordValue
-  pub state : State
-  pub standing : Standing
-  pub served : HasServed (over past.geometry past.given) made (core_calls past.events past.replies) state standing
-  pub same : given ≡ given_after past.given (take (given.last - past.given.last) made)
-
 -- The crash state gives a prefix of the run's history, which has every item up to the floor, and no record past the
--- last that the run made; and a core may begin with it.
+-- last that the run made. It is what the records that were made with the run's replies, up to there, make of what the
+-- run began with; and a core may begin with it.
 pub record Survives {M : Type 0} (past : Past M) (floor : ℕ) (image : CrashState) : Type 0 where
   pub given : Given
   pub gives : Gives image past.geometry given
   pub beginning : IsBeginning past.given (items_told past) floor given
   pub within : given.last ≤ last_made past
-  pub records : IsMadeOf past given
+  pub records : IsMadeOf (over past.geometry past.given) (core_calls past.events past.replies) given
   pub opens : CanOpen (over past.geometry given)
 
 -- The engine's core is in this state, which the records of the run set, and they alone. Those up to number `handed`

@@ -29,7 +29,7 @@ use Rattle.threads_flusher.specs.Part.{FlushValue, IsMarkOf, count_of, publicati
 use Rattle.threads_lifetime.specs.Openings.{IsNewFlusher, IsNewWriter, IsUnsound, IsGivenBack, Opens}
 
 -- nothing was served
-both_same : {s new : State} {k next : Standing} → ServesAll s k [] new next → (new ≡ s) × (next ≡ k)
+both_same : {made : List RecordValue} {s new : State} {k next : Standing} → ServesAll s k [] made new next → (new ≡ s) × (next ≡ k)
 both_same nothing = (refl, refl)
 
 module _ {D A : Type 0} (past_of : D → DevicePast) (before : D) (engine : EngineParts D A) (is : IsOpened past_of before engine) where
