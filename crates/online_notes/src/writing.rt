@@ -4,11 +4,11 @@ ghost use Rattle.std.specs.Prelude.{vec_capacity, vec_len};
 ghost use Rattle.online_notes.specs.Spelling.{IsWritable, IsWritablePair, bytes_of, pair_bytes};
 
 use online_model::{Life, Note};
-use record_values::{Error, Mark, Pair, Rid};
+use record_values::{Error, KEY_MAX, Mark, Pair, Rid};
 use std::alloc::Allocator;
 
-/// The most bytes of a note.
-pub const NOTE_MAX: usize = 63;
+/// The most bytes of a note: what it sets, the place of a pair, and the key.
+pub const NOTE_MAX: usize = KEY_MAX + 7;
 
 // The first byte of a note says what it sets.
 pub(crate) const LIVE: u8 = 1;

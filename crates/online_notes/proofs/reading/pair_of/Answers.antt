@@ -1,3 +1,4 @@
+use Rattle.record_values.specs.declared.key.TheConstants.{KEY_MAX}
 use Rattle.std.proofs.Common.{ap, arith, false, is_ok, length, rules, sym, true, true≢false, ◌∙◌, ◌≡◌, ◌≤◌}
 use Rattle.online_notes.proofs.Bytes.{key_is, pair_length, slot_is, spelled}
 use Rattle.online_notes.proofs.reading.pair_of.Goals as goal
@@ -21,7 +22,7 @@ pub returns-in_default-clause-none : goal.returns-in_default-clause-none
 returns-in_default-clause-none c = λ p w e.
     let is = key_is c.args.bytes.now c.in_ok-page.rest.now c.in_ok-slot.key.now p e c.in_ok-page.ensures.cases.1
     c.in_ok-slot.ensures.cases.1 in
-    let fits : length c.in_ok-slot.key.now ≤ 56 = omega (arith, ap length is, w.key) in
+    let fits : length c.in_ok-slot.key.now ≤ KEY_MAX = omega (arith, ap length is, w.key) in
     let ok : is_ok c.new.result ≡ true = c.new.ensures.fits.1 fits in
     let failed : is_ok c.new.result ≡ false = search rules in
     absurd (true≢false (sym ok ∙ failed))
