@@ -4,7 +4,6 @@ use crate::program::work_through;
 use block_host::are_blocks;
 use program_files::{Refused, refuse_longer};
 use program_team::{Listener, NotOpened, Team};
-use records::Error;
 use sector_device::Device;
 use std::alloc::Global;
 use std::fs::File;
@@ -22,7 +21,7 @@ fn refused_over<D: Troubled>(error: NotOpened, disk: &D) -> Refused {
     match error {
         NotOpened::Refused(error) => Refused::Store(error).because(disk),
         NotOpened::Unsound => Refused::Unsound,
-        NotOpened::NoThread => Refused::Store(Error::NoMemory),
+        NotOpened::NoThread => Refused::NoThread,
     }
 }
 

@@ -53,7 +53,7 @@ pub(crate) fn work_through<
     } = work_on(device, writers, team)?;
     drop(acknowledged);
     match refusals.any() {
-        Some(error) => Err((NotOpened::Refused(error), device)),
+        Some(refused) => Err((refused, device)),
         None => Ok(device),
     }
 }

@@ -5,8 +5,8 @@ ghost use Rattle.program_team.specs.Refusals.{told_as};
 use records::Error;
 use threads_lifetime::OpenError;
 
-/// Why no store was opened for the threads.
-#[derive(Clone, Copy)]
+/// Why the threads could not work on a store.
+#[derive(Clone, Copy, PartialEq)]
 pub enum NotOpened {
     /// The restart was refused, or there was no memory behind it.
     Refused(Error),

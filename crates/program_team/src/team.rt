@@ -50,13 +50,13 @@ pub struct Team<'a, R, L, E> {
 }
 
 /// What was refused: to a writer, which is the first of those that were refused something; to the flusher, to the
-/// builder; and before the threads began, also where one can't be made (`NoMemory`), or at the end.
+/// builder; and before the threads began, also where one can't be made (`NoThread`), or at the end.
 #[derive(Clone, Copy, PartialEq)]
 pub struct Refusals {
     pub writer: Option<Error>,
     pub flusher: Option<Error>,
     pub builder: Option<Error>,
-    pub end: Option<Error>,
+    pub end: Option<NotOpened>,
 }
 
 impl Refusals {
@@ -70,8 +70,11 @@ impl Refusals {
     }
 
     /// The first of them that there is.
-    pub fn any(&self) -> Option<Error> {
-        self.writer.or(self.flusher).or(self.builder).or(self.end)
+    pub fn any(&self) -> Option<NotOpened> {
+        match self.writer.or(self.flusher).or(self.builder) {
+            Some(error) => Some(NotOpened::Refused(error)),
+            None => self.end,
+        }
     }
 }
 
@@ -316,7 +319,7 @@ fn given_up<B: Group, D: Device, R: Wait>(
     shared: Shared<B>,
     loops: LoopParts<B, D>,
     before: Refusals,
-    error: Error,
+    end: NotOpened,
 ) -> Worked<D>
     ensures { KeepsAll D.past_of B.site.opened result.device result.acknowledged.items }
 {
@@ -329,7 +332,7 @@ fn given_up<B: Group, D: Device, R: Wait>(
     drop(clean);
     let device = give_back(rt, shared, flush);
     let mut refusals = before;
-    refusals.end = Some(error);
+    refusals.end = Some(end);
     Worked {
         device,
         acknowledged: Vec::new(alloc),
@@ -344,7 +347,7 @@ fn close<B: Group, D: Device, R: Wait>(
     shared: Shared<B>,
     parts: Parts<B, D, Global, Kept>,
     acks: Vec<Ack<B>>,
-) -> (D, Option<Error>)
+) -> (D, Option<NotOpened>)
     requires seats { AreAllSeats B.site.seats parts.seats.items }
     ensures some { (image : CrashState) → IsCrashState (D.past_of result.0).disk image
         → ∥ GivesSome B.site.opened (halves_of parts.flush.writer).geometry parts.seats.items (popped_by parts.flush)
@@ -353,7 +356,7 @@ fn close<B: Group, D: Device, R: Wait>(
 {
     match finish(rt, alloc, shared, parts, acks) {
         Ok(closed) => (closed.into_device(), None),
-        Err((error, device)) => (device, Some(error)),
+        Err((error, device)) => (device, Some(NotOpened::Refused(error))),
     }
 }
 
@@ -372,7 +375,14 @@ fn take_back<B: Group, D: Device + Drop, R: Wait>(
     ensures { KeepsAll D.past_of B.site.opened result.device result.acknowledged.items }
 {
     let Ok(gathered) = gather(alloc, writers, last) else {
-        return given_up(rt, alloc, shared, loops, before, Error::NoMemory);
+        return given_up(
+            rt,
+            alloc,
+            shared,
+            loops,
+            before,
+            NotOpened::Refused(Error::NoMemory),
+        );
     };
     let Gathered {
         seats,
@@ -557,7 +567,14 @@ fn work_staffed<
         Ok(ended) => end(rt, alloc, shared, ended, last),
         Err(loops) => {
             drop(last);
-            given_up(rt, alloc, shared, loops, Refusals::none(), Error::NoMemory)
+            given_up(
+                rt,
+                alloc,
+                shared,
+                loops,
+                Refusals::none(),
+                NotOpened::NoThread,
+            )
         }
     }
 }
@@ -580,7 +597,14 @@ fn work_together<
         Ok(staff) => work_staffed(team, shared, staff, loops),
         Err(error) => {
             drop(team);
-            given_up(rt, alloc, shared, loops, Refusals::none(), error)
+            given_up(
+                rt,
+                alloc,
+                shared,
+                loops,
+                Refusals::none(),
+                NotOpened::Refused(error),
+            )
         }
     }
 }

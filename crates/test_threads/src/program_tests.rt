@@ -302,7 +302,7 @@ fn refusals(failed: Option<Error>) -> Refusals {
         writer: failed,
         flusher: failed,
         builder: None,
-        end: failed,
+        end: failed.map(NotOpened::Refused),
     }
 }
 
