@@ -3,3 +3,4 @@ pub mod Granted
 pub mod Refusals
 pub mod Stored
 pub mod Lengths
+pub mod Openings

@@ -8,7 +8,9 @@
 //! the number of its last record. Else it tells what a reader refuses (`refused`). `Refused` says why a file or a store
 //! was refused, to `nsf-store` and to `nsf-threads`: a refused file comes to what `refusal_of` says, and a failed
 //! device to a reason, or none (`IsBecause`; which one, no clause says). Where `refuse_damaged` is content, each sector
-//! fits (`whole`), and where `refuse_longer` is, a store of version 2 or 3 is just as long as its disk (`fits`).
+//! fits (`whole`). Where `refuse_longer` is, and the device has not failed, a store of version 2 or 3 is as long as its
+//! disk (`fits`). `open_store` opens such a disk alone, as `Store::open` of `program_commands` does (`opened`,
+//! `refused`).
 //!
 //! Only tested: what is said of a file that is no store, or is damaged; that a store of version 2 or 3 is copied as a
 //! whole, also one that is open (`copy_beside`), and that the use of a device is ended. The steps below have the

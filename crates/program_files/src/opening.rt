@@ -8,6 +8,7 @@ ghost use Rattle.block_host.specs.FileBlocks as blocks;
 ghost use Rattle.block_host.specs.Kinds.{IsInBlocks, IsInPlain, are_blocks, failures_by, past_by, show_blocks};
 ghost use Rattle.block_host.specs.Opened.{IsOpened, first_read};
 ghost use Rattle.store_file.specs.FileDisk as plain;
+ghost use Rattle.program_files.specs.Openings.{IsUnopened, OpensWhole};
 ghost use Rattle.program_files.specs.Stored.{IsNotRead, IsStored};
 
 use crate::length::refuse_longer;
@@ -98,12 +99,15 @@ pub fn open_numbered<R: Files<File = File> + Clock + AllocGlobal>(
     Ok((disk, number))
 }
 
-/// The store on the disk, opened. Refused where the disk is longer than the store, or as a restart refuses it; the disk
-/// is let go then.
+/// The store on the disk, opened (`opened`). It is refused where the disk is longer than the store, or as a restart
+/// refuses it (`refused`); the disk is let go then.
 pub fn open_store<D: Device + Troubled + Drop>(
     alloc: Global,
     mut disk: D,
-) -> Result<Store<D>, Refused> {
+) -> Result<Store<D>, Refused>
+    ensures opened { IfOk result (OpensWhole D.past_of D.failures disk) }
+    ensures refused { IfErr result (IsUnopened D.past_of D.failures disk) }
+{
     if let Err(refused) = refuse_longer(&mut disk) {
         drop(disk);
         return Err(refused);
