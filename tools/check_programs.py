@@ -423,6 +423,79 @@ def an_interrupt_loses_no_commit():
     want(store("run", "s", "--lazy", "--durable"), 2)
 
 
+# ---- refusals
+
+# Transaction 1 commits three rows; transaction 2 inserts another one.
+ROWS = ["begin", "insert 1 =ant =1", "insert 1 =bee =2", "insert 1 =bee =3", "commit 1"]
+OPEN = [*ROWS, "begin", "insert 2 =cow =4"]
+BUILT = [*ROWS, "create", "build 9"]
+
+# The size of a store, what is done first, and lines each of which is refused then; of each how.
+REFUSALS = [
+    ((), ["begin"] * 16, {"begin": "7 TooManyTxns"}),
+    (("--pages", "2"), ["begin", *["insert 1 =a =b"] * 64], {line: "8 TooManyChanges" for line in ("insert 1 =a =b", "delete 1 0.0", "update 1 0.0 =c =d")}),
+    ((), OPEN, {line: "9 NoSuchTxn" for line in (
+        "insert 5 =a =b", "delete 5 0.0", "update 5 0.0 =a =b", "step 5", "undo 5", "end 5", "commit 5", "commit! 5", "commit 1")}),
+    ((), OPEN, {line: "10 NoSuchRow" for line in ("delete 2 0.9", "update 2 0.9 =a =b", "delete 2 9.0")}),
+    ((), [*OPEN, "begin"], {line: "11 RowBusy" for line in ("delete 3 0.3", "update 3 0.3 =a =b")}),
+    (("--pages", "1"), ["begin", *["insert 1 =a =b"] * 63], {"insert 1 =a =b": "12 HeapFull"}),
+    (("--pages", "1", "--entries", "64"), [*BUILT, "begin", *["insert 2 =cow =4", "step 2"] * 15], {line: "13 IndexFull" for line in ("insert 2 =a =b", "delete 2 0.0")}),
+    ((), OPEN, {f"{line} ={'k' * 57}{rest}": "14 KeyTooLong" for line, rest in (
+        ("insert 2", " =b"), ("update 2 0.0", " =b"), ("find", ""), ("scan", ""), ("delete-key 2", ""), ("update-key 2 =ant", " =b"))}),
+    ((), OPEN, {f"{line} ={'b' * 70}": "15 BodyTooLong" for line in ("insert 2 =a", "update 2 0.0 =a", "update-key 2 =ant =a")}),
+    ((), OPEN, {"create": "16 TxnsActive"}),
+    ((), [*BUILT, "begin"], {"drop": "16 TxnsActive"}),
+    ((), BUILT, {"create": "17 IndexExists"}),
+    ((), OPEN, {line: "18 NoIndex" for line in ("drop", "build", "clean", "find =ant", "scan", "delete-key 2 =ant", "update-key 2 =ant =a =b")}),
+    ((), [*ROWS, "create", "begin"], {line: "19 NotBuilt" for line in ("find =ant", "scan", "delete-key 2 =ant", "update-key 2 =ant =a =b")}),
+    ((), [*BUILT, "begin"], {"delete-key 2 =no": "10 NoSuchRow", "delete-key 2 =bee": "several 0.1 0.2", "update-key 2 =bee =a =b": "several 0.1 0.2"}),
+    ((), OPEN, {line: "22 BadScript" for line in (
+        "insert 2 =a", "insert 2 a b", "inserted", "delete 2 0", "commit 0", "build 0", "commit! 2 2", "scan =a =b =c", "backup", "crash")}),
+]
+
+
+def played(size, lines, status=0):
+    """What a session answers to these lines, on a new store of this size, and the bytes of the file behind it."""
+    made("s", *size)
+    answers = want(store("run", "s", feed="".join(line + "\n" for line in lines)), status).stdout.decode().splitlines()
+    left = pathlib.Path("s").read_bytes()
+    os.remove("s")
+    return answers, left
+
+
+def a_refused_command_changes_nothing():
+    for size, before, lines in REFUSALS:
+        first = [*before, "dump"]
+        wanted, left = played(size, [*first, "dump", "flush"])
+        at = len(played(size, first)[0])
+        for line, why in lines.items():
+            answers, bytes_left = played(size, [*first, line, "dump", "flush"], 1 if why.endswith("BadScript") else 0)
+            assert answers[at].startswith(f"refused {why}"), f"{line}: {answers[at]}"
+            assert answers[:at] + answers[at + 1:] == wanted, f"{line}: {answers[at:]}, and without it {wanted[at:]}"
+            assert bytes_left == left, f"{line}: other bytes are in the file"
+    pathlib.Path("other").write_bytes(b"another file")
+    flushed, left = played((), [*OPEN, "flush", "dump", "flush"])
+    at = flushed.index("horizon 5")
+    assert played((), [*OPEN, "backup other", "dump", "flush"]) == (flushed[:at] + ["refused backup"] + flushed[at + 1:], left)
+
+
+def a_refused_verb_changes_nothing():
+    made("s")
+    want(store("run", "s", feed="".join(line + "\n" for line in ROWS)), 0)
+    pathlib.Path("other").write_bytes(b"another file")
+    pathlib.Path("rows").write_text("a,b\n1,2\n")
+    shown = want(store("dump", "s"), 0).stdout
+    names = sorted(os.listdir())
+    for words in (["new", "s"], ["new", "other"], ["backup", "s", "other"], ["backup", "other", "n"], ["migrate", "s", "n"], ["migrate", "s", "other", "--blocks"],
+                  ["salvage", "s", "other"], ["scan", "s"], ["export", "s", "--order", "key"], ["load", "s", "rows"], ["load", "s", "none"], ["run", "other"]):
+        kept = {name: pathlib.Path(name).read_bytes() for name in names}
+        want(store(*words), 1)
+        assert sorted(os.listdir()) == names, f"{words}: {os.listdir()}"
+        for name in names:
+            assert pathlib.Path(name).read_bytes() == kept[name], f"{words}: other bytes are in {name}"
+        assert want(store("dump", "s"), 0).stdout == shown, words
+
+
 # ---- columns
 
 def columns_are_told_and_wanted():
@@ -468,11 +541,12 @@ CASES = [
     a_wait_opens_the_file_that_has_the_name_then, a_copy_is_never_of_another_file, no_bit_of_the_geometry_is_silent,
     a_longer_file_is_refused_and_salvaged, a_draft_that_is_left_gives_way, a_store_beside_a_making_stays,
     a_killed_making_gives_way, one_of_many_makings_has_the_name,
-    no_refused_allocation_leaves_a_draft, a_line_without_end_takes_little_room, a_long_line_is_answered_as_a_short_one,
+    no_refused_allocation_leaves_a_draft, a_line_without_end_takes_little_room,
+    a_long_line_is_answered_as_a_short_one,
     a_record_that_is_too_long_ends_the_load, want_of_memory_is_told_as_that, a_file_that_is_made_is_told,
     a_moved_index_that_does_not_fit_is_told, other_files_are_not_drawn_over, a_file_of_blocks_is_told_to_the_threads,
-    what_is_skipped_ends_the_input, an_interrupt_loses_no_commit, columns_are_told_and_wanted, a_cut_file_is_salvaged,
-    a_size_stands_in_for_the_first_sector,
+    what_is_skipped_ends_the_input, an_interrupt_loses_no_commit, a_refused_command_changes_nothing, a_refused_verb_changes_nothing,
+    columns_are_told_and_wanted, a_cut_file_is_salvaged, a_size_stands_in_for_the_first_sector,
 ]
 
 
