@@ -9,7 +9,7 @@ use Rattle.csv.specs.declared.error.ErrorKind.{ErrorKind}
 use Rattle.csv.specs.declared.error.ErrorKind.TheVariants as kind
 use Rattle.csv.specs.declared.parser.Config.{Config}
 use Rattle.csv.specs.declared.reader.Reader.{Reader}
-use Rattle.program_rows.specs.Reading.{bytes_of, CameTo, IsCutOrLong, IsNoHeader, IsPlain, IsReadError, ReadsOne}
+use Rattle.program_rows.specs.Reading.{bytes_of, CameTo, IsCutOrLong, IsNoHeader, IsPlain, IsReadError, IsWhole, ReadsOne}
 use Rattle.program_rows.specs.declared.error.TextError.{TextError}
 use Rattle.program_rows.specs.declared.error.TextError.TheVariants as text
 use Rattle.program_rows.specs.declared.reading.Came.{Came}
@@ -54,10 +54,11 @@ module _ {R : Type 0} (remaining : R → Option (List ℕ)) where
   cut_short (Err e) fields old new h ended = tt
 
   -- what couldn't be read
-  pub unread : (names : Option ColumnNames) (old new : Reader (Watched R)) (e : TextError) → IsReadError e → IsNoHeader remaining names e old new
-  unread names old new (text.Header e) h = absurd h
-  unread names old new (text.Io e) h = tt
-  unread names old new text.NoMemory h = tt
+  pub unread : (names : Option ColumnNames) (old new : Reader (Watched R)) (e : TextError) → IsReadError e → IsWhole (reader_source new)
+      → IsNoHeader remaining names e old new
+  unread names old new (text.Header e) h whole = absurd h
+  unread names old new (text.Io e) h whole = whole
+  unread names old new text.NoMemory h whole = whole
 
 -- An error of a read that takes records of any length stops the reader.
 pub stops : {S : Type 0} (rem : S → Option (List ℕ)) (old new : Reader S) (e : ErrorKind) → is_flexible old ≡ true → ExplainsRead rem old new false e

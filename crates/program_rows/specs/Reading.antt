@@ -75,6 +75,11 @@ pub record IsLong {R : Type 0} (reader : Reader (Watched R)) : Type 0 where
   pub long : is_too_long (reader_source reader) ≡ true
   pub ended : has_failed reader ≡ true
 
+-- Neither is so.
+pub record IsWhole {R : Type 0} (source : Watched R) : Type 0 where
+  pub closed : is_cut_off source ≡ false
+  pub short : is_too_long source ≡ false
+
 -- which of the two is so of a source
 abbrev pub IsCutOrLong : {R : Type 0} → Watched R → Came → Type 0
 IsCutOrLong source Cut = is_cut_off source ≡ true
@@ -118,8 +123,8 @@ module _ {R : Type 0} (remaining : R → Option (List ℕ)) where
   IsNoHeader names (Header NoBody) old new = LacksColumns names NoBody old new
   IsNoHeader names (Header NoNames) old new = LacksColumns names NoNames old new
   IsNoHeader names (Header fault.TooLong) old new = IsLong new
-  IsNoHeader names (Io error) old new = ⊤
-  IsNoHeader names NoMemory old new = ⊤
+  IsNoHeader names (Io error) old new = IsWhole (reader_source new)
+  IsNoHeader names NoMemory old new = IsWhole (reader_source new)
 
   -- The first record of the source's text, its header, was read, and gives the columns. So many fields it has.
   pub record StandsBehindHeader (source : R) (names : Option ColumnNames) (rows : RowReader R) : Type 0 where

@@ -4,7 +4,7 @@ ghost use Rattle.csv.specs.Reading.{has_failed, reader_source};
 ghost use Rattle.csv.specs.Records.{fields_of};
 ghost use Rattle.program_quotes.specs.Quotes.{passed_in};
 ghost use Rattle.program_rows.specs.Reading.{AreChosen, BeginsAt, CameTo, IsCutOrLong, IsNoHeader, IsPlain};
-ghost use Rattle.program_rows.specs.Reading.{IsReadError, ReadsOne};
+ghost use Rattle.program_rows.specs.Reading.{IsReadError, IsWhole, ReadsOne};
 ghost use Rattle.program_rows.specs.Rows.{own_columns};
 
 use crate::columns::{HeaderError, columns_named, default_columns};
@@ -75,6 +75,7 @@ fn plain_reader<R: Read>(alloc: Global, source: R) -> Reader<Watched<R>>
 // Why no record was read.
 fn refusal_of<R: Read>(reader: &Reader<Watched<R>>, error: csv::Error) -> Result<Came, TextError>
     ensures cut { IfOk result (IsCutOrLong (reader_source reader.now)) }
+    ensures whole { OnErr result (IsWhole (reader_source reader.now)) }
     ensures failed { IfErr result IsReadError }
 {
     if reader.get_ref().is_cut_off() {
@@ -95,6 +96,7 @@ fn read_record<R: Read>(
         → CameTo R.remaining came (fields_of record.new) reader.old reader.new) }
     ensures fails { OnErr result (IsPlain reader.old → has_failed reader.new ≡ true) }
     ensures failed { IfErr result IsReadError }
+    ensures whole { OnErr result (IsWhole (reader_source reader.new)) }
     ensures ended { has_failed reader.old ≡ true → (result ≡ Ok Came.End) × (has_failed reader.new ≡ true) }
 {
     match reader.read_byte_record(record) {
@@ -214,11 +216,13 @@ impl<R: Read + Drop> RowReader<R> {
     /// Reads the next record, and answers its row, or why it has none; none behind the last record (`gives`). A record
     /// that ends with the text inside a quote, or is too long, has no row, and is the last one.
     ///
-    /// The error is the text's, or `NoMemory`. It ends the text (`fails`): then there is no record any more (`ended`).
+    /// The error is the text's, or `NoMemory`, and neither of these (`whole`). It ends the text (`fails`): then there is no
+    /// record any more (`ended`).
     pub fn next_row(&mut self) -> Result<Option<Result<Row, RowError>>, TextError>
         ensures gives { IfOk result (λ found. IsPlain (reader_of self.old)
             → GivesNext R.remaining found self.old self.new) }
         ensures fails { OnErr result (IsPlain (reader_of self.old) → has_ended self.new ≡ true) }
+        ensures whole { OnErr result (IsWhole (reader_source (reader_of self.new))) }
         ensures ended { has_ended self.old ≡ true → (result ≡ Ok None) × (has_ended self.new ≡ true) }
         ensures columns { columns_of self.new ≡ columns_of self.old }
         ensures fields { fields_in self.new ≡ fields_in self.old }

@@ -19,13 +19,13 @@ record_not_end came found is = cc
 pub returns-in-Err : goal.returns-in-Err
 returns-in-Err g c =
     let done = c.in-Err.ensures in
-    record { gives = tt; fails = done.fails; ended = λ was. absurd (refused_not _ _ (done.ended was).0); columns = refl; fields = refl }
+    record { gives = tt; fails = done.fails; whole = done.whole; ended = λ was. absurd (refused_not _ _ (done.ended was).0); columns = refl; fields = refl }
 
 pub returns-in-Ok-End : goal.returns-in-Ok-End
 returns-in-Ok-End g c =
     let done = c.in-Ok-End.ensures in
     let came = rw c.in-Ok-End.field-0-is at done.came in
-    record { gives = λ plain. (_, came plain); fails = tt; ended = λ was. (refl, (done.ended was).1); columns = refl; fields = refl }
+    record { gives = λ plain. (_, came plain); fails = tt; whole = tt; ended = λ was. (refl, (done.ended was).1); columns = refl; fields = refl }
 
 pub returns-in-Ok-Cut : goal.returns-in-Ok-Cut
 returns-in-Ok-Cut g c =
@@ -34,6 +34,7 @@ returns-in-Ok-Cut g c =
     record {
       gives = λ plain. inr (inl (refl, came plain));
       fails = tt;
+      whole = tt;
       ended = λ was. absurd (cut_not_end _ c.in-Ok-Cut.field-0-is (done.ended was).0);
       columns = refl;
       fields = refl;
@@ -46,6 +47,7 @@ returns-in-Ok-TooLong g c =
     record {
       gives = λ plain. inr (inr (refl, came plain));
       fails = tt;
+      whole = tt;
       ended = λ was. absurd (long_not_end _ c.in-Ok-TooLong.field-0-is (done.ended was).0);
       columns = refl;
       fields = refl;
@@ -58,6 +60,7 @@ returns-in-Ok-Record g c =
     record {
       gives = λ plain. inl (_, came plain, c.row_under.ensures);
       fails = tt;
+      whole = tt;
       ended = λ was. absurd (record_not_end _ c.in-Ok-Record.field-0-is (done.ended was).0);
       columns = refl;
       fields = refl;
