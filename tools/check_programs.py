@@ -291,6 +291,20 @@ def a_line_without_end_takes_little_room():
     assert want(store("load", "s", "/dev/zero"), 1).stderr == b"nsf-store: /dev/zero: its header is longer than 1048576 bytes\n"
 
 
+def a_script_is_read_no_further_than_it_goes():
+    for words in ((), ("--crash-map",)):
+        endless = subprocess.Popen(["yes", "dump"], stdout=subprocess.PIPE)
+        done = subprocess.run([REPLAY, *words], stdin=endless.stdout, capture_output=True, timeout=60)
+        endless.stdout.close()
+        endless.wait()
+        want(done, 1, "refused 22 BadScript 10001\n", "")
+        with open("/dev/zero", "rb") as endless:
+            done = subprocess.run([REPLAY, *words], stdin=endless, capture_output=True, timeout=60)
+        want(done, 1, "", "nsf: line 1 of the script is longer than 65535 bytes")
+        want(run(REPLAY, *words, feed="begin\n#" + "c" * 65_535 + "\nfind\n"), 1, "", "line 2 of the script is longer")
+        want(run(REPLAY, *words, feed="begin\n#" + "c" * 65_534 + "\nfind\n"), 1, "refused 22 BadScript 3\n", "")
+
+
 def a_long_line_is_answered_as_a_short_one():
     made("s")
     long = "a" * 3_000_000
@@ -542,7 +556,7 @@ CASES = [
     a_longer_file_is_refused_and_salvaged, a_draft_that_is_left_gives_way, a_store_beside_a_making_stays,
     a_killed_making_gives_way, one_of_many_makings_has_the_name,
     no_refused_allocation_leaves_a_draft, a_line_without_end_takes_little_room,
-    a_long_line_is_answered_as_a_short_one,
+    a_script_is_read_no_further_than_it_goes, a_long_line_is_answered_as_a_short_one,
     a_record_that_is_too_long_ends_the_load, want_of_memory_is_told_as_that, a_file_that_is_made_is_told,
     a_moved_index_that_does_not_fit_is_told, other_files_are_not_drawn_over, a_file_of_blocks_is_told_to_the_threads,
     what_is_skipped_ends_the_input, an_interrupt_loses_no_commit, a_refused_command_changes_nothing, a_refused_verb_changes_nothing,

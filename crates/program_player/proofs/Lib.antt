@@ -1,3 +1,4 @@
 mod Made
 mod Started
 mod Kept
+mod Texts

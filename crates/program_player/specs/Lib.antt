@@ -2,3 +2,4 @@ pub mod Disk
 pub mod Session
 pub mod Runs
 pub mod Plays
+pub mod Inputs

@@ -1,4 +1,5 @@
 //! The program for its words: a script's run, or the map of it.
+use crate::input::{Unread, read_script};
 use crate::map::CrashMap;
 use crate::picture::write_picture;
 use crate::program::{run_script, run_without_map};
@@ -23,7 +24,7 @@ const BEGINNING: &[u8] = b"<svg";
 #[derive(Clone, Copy)]
 enum Ending {
     NoMemory,
-    Unread,
+    Unread(Unread),
     Unwritten,
     Undrawn,
     /// Another file has the picture's name.
@@ -41,6 +42,14 @@ fn ending_of(error: io::Error, ending: Ending) -> Ending {
         ErrorKind::OutOfMemory => Ending::NoMemory,
         _ => ending,
     }
+}
+
+// What a script that isn't read ends with.
+fn ending_of_input(unread: Unread) -> Ending {
+    if unread.is_want_of_memory() {
+        return Ending::NoMemory;
+    }
+    Ending::Unread(unread)
 }
 
 // The words that are no map's own.
@@ -125,10 +134,10 @@ fn show<R: Read, W: Write, F: Files>(
     if let Some(ending) = fault_of_file(rt, file) {
         return Err(ending);
     }
-    let mut text = Vec::new(alloc);
-    if let Err(error) = input.read_to_end(&mut text) {
-        return Err(ending_of(error, Ending::Unread));
-    }
+    let text = match read_script(alloc, input) {
+        Ok(text) => text,
+        Err(unread) => return Err(ending_of_input(unread)),
+    };
     let (printed, status) = match printed(rt, alloc, arguments, &text, file) {
         Ok(made) => made,
         Err(error) => return Err(ending_of(error, Ending::Undrawn)),
@@ -142,8 +151,8 @@ fn show<R: Read, W: Write, F: Files>(
 // Tells what a map ended with. What can't be told either is let go: the status tells it.
 fn tell<W: Write>(ending: Ending, file: Option<&str>, output: &mut W, errors: &mut impl Write) {
     let _ = match ending {
+        Ending::Unread(unread) => return unread.tell(errors),
         Ending::NoMemory => writeln!(output, "refused 1 NoMemory"),
-        Ending::Unread => writeln!(errors, "nsf: cannot read standard input"),
         Ending::Unwritten => writeln!(errors, "nsf: cannot write to standard output"),
         Ending::Undrawn => writeln!(errors, "nsf: cannot write {}", file.unwrap_or("")),
         Ending::Other => writeln!(

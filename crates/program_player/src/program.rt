@@ -4,9 +4,10 @@ ghost use Rattle.program_script.specs.Grammar.{lines, IsScript};
 ghost use Rattle.program_player.specs.Runs.{Prints, GoesOn, Restarts, MakesSteps, Runs, RunsCommand, RunsCommands};
 ghost use Rattle.program_player.specs.Plays.{geometry_of, sectors_asked, Starts, IsNoStart, IsCutAt, StartsFor};
 ghost use Rattle.program_player.specs.Plays.{IsFault};
-ghost use Rattle.program_player.specs.Plays.{IsRefused, IsStopped, Shows, Ends, Plays, IsWholeInput, PlaysInput};
+ghost use Rattle.program_player.specs.Plays.{IsRefused, IsStopped, Shows, Ends, Plays, PlaysInput};
 ghost use Rattle.program_player.specs.Plays.{RunsWords};
 
+use crate::input::read_script;
 use crate::session::{Disk, End, Session, Stopped};
 use flip_image::Halves;
 use program_arguments::NoArguments;
@@ -19,7 +20,7 @@ use sector_device::{Fate, FaultDisk, MemDisk, Which};
 use std::alloc::Global;
 use std::convert::AsStr;
 use std::io;
-use std::io::{ErrorKind, Read, Write};
+use std::io::{Read, Write};
 use store_reader::{format_gives_nothing, one_answer};
 
 /// How many writes and syncs the disk has room to record: more than are made from one loss of power to the next, by a
@@ -322,15 +323,6 @@ pub fn run_script<W: Write>(
     }
 }
 
-// The whole of the input.
-fn all_of<R: Read>(alloc: Global, input: &mut R) -> io::Result<Vec<u8>>
-    ensures { IfOk result (λ text. IsWholeInput (R.remaining input.old) text.items) }
-{
-    let mut bytes = Vec::new(alloc);
-    input.read_to_end(&mut bytes)?;
-    Ok(bytes)
-}
-
 // Whether a line that is no comment holds a carriage return, which makes it a bad one.
 fn has_carriage_return(text: &[u8]) -> bool {
     text.split(|byte| *byte == b'\n')
@@ -378,7 +370,8 @@ fn note_unwritten(ran: &io::Result<u8>, errors: &mut impl Write) {
 }
 
 /// Runs the script that the input holds, as the arguments ask, and answers the exit status: that of `run_script`, or 1
-/// where there is no memory for the input. The error is the input's or the output's, and then the error stream says so.
+/// where there is no memory for the input. The error is the input's or the output's, and then the error stream says so;
+/// an input of which a line is too long is one that can't be read.
 pub fn run_input<R: Read, W: Write>(
     alloc: Global,
     arguments: &Arguments,
@@ -389,20 +382,18 @@ pub fn run_input<R: Read, W: Write>(
     ensures { IfOk result (λ status.
         PlaysInput W.contents arguments.now (R.remaining input.old) status output.old output.new) }
 {
-    match all_of(alloc, input) {
+    match read_script(alloc, input) {
         Ok(text) => {
             note_bytes(&text, errors);
             let ran = run_script(alloc, arguments, &text, output);
             note_unwritten(&ran, errors);
             ran
         }
-        Err(error) => match error.kind() {
-            ErrorKind::OutOfMemory => refused(output, Error::NoMemory),
-            _ => {
-                let _ = writeln!(errors, "nsf: cannot read standard input");
-                Err(error)
-            }
-        },
+        Err(unread) if unread.is_want_of_memory() => refused(output, Error::NoMemory),
+        Err(unread) => {
+            unread.tell(errors);
+            Err(unread.into_error())
+        }
     }
 }
 

@@ -1,6 +1,8 @@
 use Rattle.std.proofs.Common.{inl, ℕ, List, [], Option, Some, None, refl, sym, subst}
 use Rattle.std.proofs.lemmas.Result.{IfOk-weaker}
+use Rattle.program_player.specs.Inputs.{IsEnough}
 use Rattle.program_player.specs.Plays.{IsWholeInput}
+use Rattle.program_player.proofs.Texts.{plays_input}
 use Rattle.program_player.proofs.program.run_input.Goals as goal
 
 -- a text that the input may have
@@ -10,11 +12,11 @@ some_text None = ([], tt)
 
 pub returns-in-Ok : goal.returns-in-Ok
 returns-in-Ok g c =
-    let contents = g.W.Write.contents in
     let input = g.R.Read.remaining c.args.input.now in
     let text = c.deref-in-Ok.result.now in
-    let whole : IsWholeInput input text = subst (λ (t : List ℕ). IsWholeInput input t) (sym c.deref-in-Ok.ensures.value) c.in-Ok.ensures in
-    IfOk-weaker c.run_script-ran.result _ _ (λ status plays. (text, whole, plays)) c.run_script-ran.ensures
+    let enough : IsEnough input text = subst (λ (t : List ℕ). IsEnough input t) (sym c.deref-in-Ok.ensures.value) c.in-Ok.ensures in
+    IfOk-weaker c.run_script-ran.result _ _ (λ status plays. plays_input g.W.Write.contents c.args.arguments.now status _ _ input text enough plays)
+    c.run_script-ran.ensures
 
 pub returns-in-OutOfMemory : goal.returns-in-OutOfMemory
 returns-in-OutOfMemory g c =
