@@ -177,14 +177,16 @@ IsNotOpened sectors status = (status ≡ number_of NoMemory) ⊎ IsRefusedOn (Is
 abbrev pub AreZeros : GeometryValue → CrashState → Type 0
 AreZeros g content = content ≡ replicate (geometry.sectors_of g) zero_sector
 
--- On such a disk the store was to be made, and a call of it failed.
-pub record FailedAsMade (g : GeometryValue) (status : ℕ) : Type 0 where
+-- A store was to be made on such a disk. A call of it failed, so it counts a failure.
+pub record HasFailed (g : GeometryValue) (after : Disk) : Type 0 where
   pub disk : Disk
-  pub after : Disk
   pub is_disk : IsDisk (AreZeros g) disk
   pub writes : SameOutside (IsFormatSector g) (past_of disk).disk.content (past_of after).disk.content
   pub fails : Rises (failures_of disk) (failures_of after)
-  pub status_is : status ≡ number_of DeviceFailed
+
+-- some disk has failed so
+abbrev pub FailedAsMade : GeometryValue → ℕ → Type 0
+FailedAsMade g status = (after : Disk) × HasFailed g after × (status ≡ number_of DeviceFailed)
 
 -- why no store was made: the numbers are no geometry; or they are, and there was no memory, or a call of the device
 -- failed, or a restart on the store just made refused

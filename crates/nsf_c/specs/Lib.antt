@@ -5,4 +5,5 @@ pub mod Spots
 pub mod Told
 pub mod Handles
 pub mod Calls
+pub mod Unopened
 pub mod Scans

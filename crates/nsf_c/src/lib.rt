@@ -4,15 +4,15 @@
 //! answered from memory; and what C asks for is one event, or none for one reason (the law `one_event`). `nsf_next`
 //! tells the first visible pair of a range, now or as is committed, `nsf_previous` the last one, and
 //! `nsf_get_committed` a committed row, or why not (`IsShown`, `IsNotShown`, `IsShownBack`, `IsNotShownBack`,
-//! `IsCommittedTold`); a scan is refused for its first fault alone (the law `one_scan`). Where `nsf_create` answers 2,
-//! there is a disk of zeros on which such a store was to be made, and whose count of failures rose (`FailedAsMade`).
+//! `IsCommittedTold`); a scan is refused for its first fault alone (the law `one_scan`). Within `nsf_create`, `formatted`
+//! and `make` give back a disk that failed, which counts that (`HasFailed`), or that a restart refused.
 //!
 //! Trusted: what `include/nsf.h` asks of who calls, and that the other end of a line does what it is asked before it
 //! says so. One thread at a time is in a call of a handle, and all calls of a handle are of one thread. By hand: five
 //! functions of `handle.rt` and `loose.rt`, between a box and the pointer that C keeps. Not proved: that memory was
-//! refused where a call answers 1, since no contract below says when it is; nor that the disk of `FailedAsMade` is the
-//! one that the call made, which no clause of a call of C can name. `examples/c/refusals.c` plays both. Neither proved
-//! nor built by `rt ci`: what is C.
+//! refused where a call answers 1, since no contract below says when it is; nor of `nsf_create` itself that the disk
+//! which failed, where it answers 2, is its own: C gets a number and no disk, so its clause says only that there is one
+//! (`FailedAsMade`). `examples/c/refusals.c` plays both. Neither proved nor built by `rt ci`: what is C.
 #![tactic(auto)]
 
 mod asked;
@@ -29,6 +29,7 @@ mod scanning;
 mod serving_calls;
 mod spot;
 mod told;
+mod unopened;
 
 pub use asked::Asked;
 pub use below::Below;

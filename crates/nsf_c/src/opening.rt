@@ -1,17 +1,18 @@
 //! A store is made, opened and closed.
-ghost use Rattle.std.specs.Prelude.{◌≡◌, ◌≢◌, ◌⊎◌, ◌<ℤ◌, ◌≤ℤ◌, pos, Some, IfOk, IfErr, false};
+ghost use Rattle.std.specs.Prelude.{◌≡◌, ◌≢◌, ◌<ℤ◌, ◌≤ℤ◌, pos, Some, IfOk, IfErr, false};
 ghost use Rattle.record_values.specs.Refusals.{number_of};
 ghost use Rattle.store_file.specs.FileDisk.{past_of};
 ghost use Rattle.program_commands.specs.Guarded.{knows_failure, store_of};
 ghost use Rattle.program_commands.specs.Store.{OpensOn};
-ghost use Rattle.nsf_c.specs.Calls.{FailedAsMade, Is, IsDisk, IsMade, IsNeeded, IsNotMade, IsNotOpened, IsOpenedOn};
-ghost use Rattle.nsf_c.specs.Calls.{IsRefused, sectors_of};
+ghost use Rattle.nsf_c.specs.Calls.{Is, IsDisk, IsMade, IsNeeded, IsNotMade, IsNotOpened, IsOpenedOn, sectors_of};
+ghost use Rattle.nsf_c.specs.Unopened.{error_of, IsUnmade, IsUnopened, IsUnopenedOn};
 ghost use Rattle.nsf_c.specs.Handles.{Holds, IsOpen, IsVacant};
 ghost use Rattle.nsf_c.specs.declared.below.Below.TheVariants.{Line, Memory};
 
 use crate::below::Below;
 use crate::handle::Handle;
 use crate::held::Held;
+use crate::unopened::Unopened;
 use flip_image::Halves;
 use program_commands::{GuardedStore, Store};
 use records::{Error, Geometry};
@@ -42,61 +43,78 @@ pub extern "C" fn nsf_sectors(pages: u32, entries: u32, slots: u32) -> u64
     }
 }
 
-// Opens the store on the disk.
-fn open_on(alloc: Global, disk: FileDisk<Below, Global>) -> Result<Box<Held>, Error>
+// Opens the store on the disk, which comes back where a restart refuses it.
+fn open_on(alloc: Global, disk: FileDisk<Below, Global>) -> Result<Box<Held>, Unopened>
     ensures ok { IfOk result (λ held. OpensOn past_of disk (store_of held.value.store)) }
     ensures sound { IfOk result (λ held. knows_failure held.value.store ≡ false) }
-    ensures err { IfErr result (λ e. (e ≡ Error.NoMemory) ⊎ IsRefused disk e) }
+    ensures err { IfErr result (IsUnopenedOn disk) }
 {
     match Store::open(alloc, disk) {
         Ok(store) => {
             let store = GuardedStore::new(store);
-            Ok(Box::new(alloc, Held { store })?)
+            let Ok(held) = Box::new(alloc, Held { store }) else {
+                return Err(Unopened::NoMemory);
+            };
+            Ok(held)
         }
-        Err((error, _)) => Err(error),
+        Err((error, disk)) => Err(Unopened::Refused(error, disk)),
     }
 }
 
 // Opens the store that these sectors hold.
-fn open_sectors(alloc: Global, line: i32, sectors: &[[u8; SECTOR_SIZE]]) -> Result<Box<Held>, Error>
+fn open_sectors(
+    alloc: Global,
+    line: i32,
+    sectors: &[[u8; SECTOR_SIZE]],
+) -> Result<Box<Held>, Unopened>
     ensures ok { IfOk result (λ held. IsOpenedOn (Is sectors.now) held.value.store) }
-    ensures err { IfErr result (λ e. IsNotOpened sectors.now (number_of e)) }
+    ensures err { IfErr result (IsUnopened (Is sectors.now)) }
 {
-    let disk = FileDisk::holding(alloc, below(line), sectors)?;
+    let Ok(disk) = FileDisk::holding(alloc, below(line), sectors) else {
+        return Err(Unopened::NoMemory);
+    };
     open_on(alloc, disk)
 }
 
-// A disk on which a store was made.
-fn formatted(alloc: Global, line: i32, geometry: Geometry) -> Result<FileDisk<Below, Global>, Error>
+// A disk on which a store was made. Where a call of it failed, it comes back, and counts that.
+fn formatted(
+    alloc: Global,
+    line: i32,
+    geometry: Geometry,
+) -> Result<FileDisk<Below, Global>, Unopened>
     ensures ok { IfOk result (IsDisk (IsMade geometry)) }
-    ensures err { IfErr result (λ e. (e ≡ Error.NoMemory) ⊎ FailedAsMade geometry (number_of e)) }
+    ensures err { IfErr result (IsUnmade geometry) }
 {
-    let mut disk = FileDisk::new(alloc, below(line), geometry.sectors() as usize)?;
-    Halves::format(&mut disk, geometry)?;
-    Ok(disk)
+    let Ok(mut disk) = FileDisk::new(alloc, below(line), geometry.sectors() as usize) else {
+        return Err(Unopened::NoMemory);
+    };
+    match Halves::format(&mut disk, geometry) {
+        Ok(()) => Ok(disk),
+        Err(_) => Err(Unopened::Failed(disk)),
+    }
 }
 
 // Makes a store and opens it.
-fn make(alloc: Global, line: i32, geometry: Geometry) -> Result<Box<Held>, Error>
+fn make(alloc: Global, line: i32, geometry: Geometry) -> Result<Box<Held>, Unopened>
     ensures ok { IfOk result (λ held. IsOpenedOn (IsMade geometry) held.value.store) }
-    ensures err { IfErr result (λ e. IsNotMade geometry (number_of e)) }
+    ensures err { IfErr result (IsUnmade geometry) }
 {
     let disk = formatted(alloc, line, geometry)?;
     open_on(alloc, disk)
 }
 
 // Puts what was opened under the handle. Answers 0, or the number of the refusal.
-fn put_opened(handle: &mut Handle, opened: Result<Box<Held>, Error>) -> u32
+fn put_opened(handle: &mut Handle, opened: Result<Box<Held>, Unopened>) -> u32
     requires { IsVacant handle.old }
     ensures ok { IfOk opened (λ held. (result ≡ 0) × (handle.new.value ≡ Some held.value)) }
-    ensures err { IfErr opened (λ e. (result ≡ number_of e) × IsVacant handle.new) }
+    ensures err { IfErr opened (λ e. (result ≡ number_of (error_of e)) × IsVacant handle.new) }
 {
     match opened {
         Ok(held) => {
             handle.put(held);
             0
         }
-        Err(error) => u32::from(error.number()),
+        Err(unopened) => u32::from(unopened.error().number()),
     }
 }
 
