@@ -4,8 +4,8 @@
 //! answered from memory; and what C asks for is one event, or none for one reason (the law `one_event`). `nsf_next`
 //! tells the first visible pair of a range, now or as is committed, `nsf_previous` the last one, and
 //! `nsf_get_committed` a committed row, or why not (`IsShown`, `IsNotShown`, `IsShownBack`, `IsNotShownBack`,
-//! `IsCommittedTold`); a scan is refused for its first fault alone (the law `one_scan`). Within `nsf_create`, `formatted`
-//! and `make` give back a disk that failed, which counts that (`HasFailed`), or that a restart refused.
+//! `IsCommittedTold`); a scan is refused for its first fault alone (the law `one_scan`). Within `nsf_create`, `make`
+//! and `formatted` give back a disk that failed, which counts that (`HasFailed`), or that a restart refused.
 //!
 //! Trusted: what `include/nsf.h` asks of who calls, and that the other end of a line does what it is asked before it
 //! says so. One thread at a time is in a call of a handle, and all calls of a handle are of one thread. By hand: five

@@ -147,8 +147,8 @@ fn has_many_lines(text: &[u8]) -> bool
     feeds > LINES_MAX
 }
 
-/// Reads the script that the input holds: all of it, or so much that it has more lines than a script may have (`enough`).
-/// No more is read, nor of a line that is too long. (That is only tested.)
+/// Reads the script that the input holds: all of it, or so much that it has more lines than a script may have
+/// (`enough`). No more is read, nor of a line that is too long. (That is only tested.)
 pub(crate) fn read_script<R: Read>(alloc: Global, input: &mut R) -> Result<Vec<u8>, Unread>
     ensures enough { IfOk result (λ text. IsEnough (R.remaining input.old) text.items) }
 {

@@ -3,10 +3,10 @@
 //!
 //! Proved: the theorem over a whole script is the contract of `run_script` (`Plays`), where no write of the output
 //! fails. `run_input`, `run_words` and `run_without_map` hand it on for the input and the program's words
-//! (`PlaysInput`, `RunsWords`). Of an input no more is read than a script may have: what is behind its 10,000 lines does
-//! not matter (`enough`). Only tested (`test_replay_rows`): that just the write or sync that was asked for is cut short,
-//! and the order of faults; and (`tools/check_programs.py`) that an input without end is read so far alone, and that a
-//! line of more than 65,535 bytes ends it, as an input that can't be read. Neither: when memory is lacking.
+//! (`PlaysInput`, `RunsWords`). What stands behind more lines of the input than a script may have changes nothing
+//! (`enough`). Only tested (`test_replay_rows`): that just the write or sync that was asked for is cut short, and the
+//! order of faults; and (`tools/check_programs.py`) that no more is read then, and that a line of more than 65,535
+//! bytes ends the input, as one that can't be read. Neither: when memory is lacking.
 //!
 //! `run` is the program: a script's run, or what a loss of power leaves of its store, as a table and a picture
 //! of each write and sync and each fate. Each run of a map is one of `run_script`, which is stopped at one write or
