@@ -216,8 +216,8 @@ impl<R: Read + Drop> RowReader<R> {
     /// Reads the next record, and answers its row, or why it has none; none behind the last record (`gives`). A record
     /// that ends with the text inside a quote, or is too long, has no row, and is the last one.
     ///
-    /// The error is the text's, or `NoMemory`, and neither of these (`whole`). It ends the text (`fails`): then there is
-    /// no record any more (`ended`).
+    /// The error is the text's, or `NoMemory`, and neither of these (`whole`). It ends the text (`fails`): then there
+    /// is no record any more (`ended`).
     pub fn next_row(&mut self) -> Result<Option<Result<Row, RowError>>, TextError>
         ensures gives { IfOk result (λ found. IsPlain (reader_of self.old)
             → GivesNext R.remaining found self.old self.new) }
