@@ -1,0 +1,2 @@
+mod Planned
+mod Following
