@@ -182,6 +182,7 @@ impl<E: Entries, W: Walk> OnlineIndex<E, W> {
     fn advance(&mut self)
         ensures entries { self.new.entries ≡ self.old.entries }
         ensures life { self.new.life ≡ self.old.life }
+        ensures same_capacity { self.new.capacity ≡ self.old.capacity }
         ensures attempts { self.new.attempts ≡ min (self.old.attempts + 1) ATTEMPTS_PER_CHECKPOINT }
         ensures run { (p : Pair) → next_of self.old.scan ≡ Some p → (r : ScanRun) → HasRun self.old.scan r
             → HasRun self.new.scan (with_step r (HandedOut p)) }
@@ -201,6 +202,7 @@ impl<E: Entries, W: Walk> OnlineIndex<E, W> {
             → HasMade w (step_of reply) (listed (note_of reply)) self.new) }
         ensures reply { IfOk result (λ reply. reply ≡ attempt_of pair (map.get self.old.entries pair)) }
         ensures attempts { OnOk result (self.new.attempts ≡ min (self.old.attempts + 1) ATTEMPTS_PER_CHECKPOINT) }
+        ensures same_capacity { self.new.capacity ≡ self.old.capacity }
         ensures refused { IfErr result (λ e. (map.get self.old.entries pair ≡ None)
             × IsRefusal self.old e) }
         ensures unchanged { OnErr result (self.new ≡ self.old) }
@@ -231,6 +233,7 @@ impl<E: Entries, W: Walk> OnlineIndex<E, W> {
         ensures reply { IfOk result (λ reply. reply ≡ reply_due self.old self.old.life) }
         ensures attempts { IfOk result (λ reply. self.new.attempts ≡ attempts_after reply self.old.attempts) }
         ensures idle { IfOk result (λ reply. step_of reply ≡ None → self.new ≡ self.old) }
+        ensures same_capacity { self.new.capacity ≡ self.old.capacity }
         ensures refused { IfErr result (λ e. IsPlacing (reply_due self.old self.old.life)
             × IsRefusal self.old e) }
         ensures unchanged { OnErr result (self.new ≡ self.old) }
@@ -258,6 +261,7 @@ impl<E: Entries, W: Walk> OnlineIndex<E, W> {
         ensures reply { IfOk result (λ reply. reply ≡ reply_due self.old self.old.life) }
         ensures attempts { IfOk result (λ reply. self.new.attempts ≡ attempts_after reply self.old.attempts) }
         ensures idle { IfOk result (λ reply. step_of reply ≡ None → self.new ≡ self.old) }
+        ensures same_capacity { self.new.capacity ≡ self.old.capacity }
         ensures refused { IfErr result (λ e. IsRefusal self.old e) }
         ensures same_notes { OnErr result (notes.new.items ≡ notes.old.items) }
         ensures unchanged { OnErr result (self.new ≡ self.old) }
@@ -284,6 +288,7 @@ impl<E: Entries, W: Walk> OnlineIndex<E, W> {
             × IsCount result most (length replies)
             × (notes.new.items ≡ notes.old.items ++ notes_of_all replies) }
         ensures stop { IfOk result (λ stop. IsStop stop self.new) }
+        ensures same_capacity { self.new.capacity ≡ self.old.capacity }
         ensures refused { IfErr result (λ e. IsRefusal self.new e) }
     {
         for made in 0..most {

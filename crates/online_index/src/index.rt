@@ -4,7 +4,6 @@ ghost use Rattle.std.specs.Prelude.{IsTrue, OnErr, OnOk, false};
 ghost use Rattle.std.specs.FinMap as map;
 ghost use Rattle.std.specs.Option.{option_copied};
 ghost use Rattle.record_values.specs.Maps.{set_at};
-ghost use Rattle.btree_node.specs.Above.{IsLeastAbove};
 ghost use Rattle.marked_index.specs.Counts.{marked_in};
 ghost use Rattle.online_model.specs.Keeping.{IsCreated};
 ghost use Rattle.online_model.specs.Logs.{cells_of, set_by};
@@ -244,17 +243,17 @@ impl<E: Entries, W: Walk> OnlineIndex<E, W> {
         }
     }
 
+    /// How many entries there may be.
+    pub fn capacity(&self) -> usize
+        ensures { result ≡ self.now.capacity }
+    {
+        self.entries.capacity()
+    }
+
     /// The mark of a pair, if it has an entry. The pair is visible where it is `Live`.
     pub fn get(&self, pair: &Pair) -> Option<Mark>
         ensures { result ≡ map.get self.now.entries pair.now }
     {
         self.entries.get(pair)
-    }
-
-    /// The least entry whose pair comes after the given one, or the least of all.
-    pub fn above(&self, pair: Option<&Pair>) -> Option<(Pair, Mark)>
-        ensures { IsLeastAbove self.now.entries (option_copied pair.entry) result }
-    {
-        self.entries.above(pair)
     }
 }

@@ -1,9 +1,14 @@
 //! What the theorem of `online_model` says of an index.
-ghost use Rattle.std.specs.Prelude.{◌≡◌, ◌↔◌, ◌++◌, ◌∷◌, None, Some, List, ℕ, false};
+ghost use Rattle.std.specs.Prelude.{◌≡◌, ◌↔◌, ◌++◌, ◌∷◌, None, Some, Contains, List, ℕ, false, true};
 ghost use Rattle.std.specs.FinMap.{empty, get};
+ghost use Rattle.std.specs.List.Sorted.{IsStrictlySortedBy};
+ghost use Rattle.record_values.specs.Orders.{pair_cmp};
 ghost use Rattle.record_values.specs.Values.{Place};
 ghost use Rattle.record_values.specs.declared.pair.Mark.{Mark};
 ghost use Rattle.record_values.specs.declared.pair.Pair.{Pair};
+ghost use Rattle.entry_scan.specs.Ranges.{is_within};
+ghost use Rattle.entry_scan.specs.Visible.{visible};
+ghost use Rattle.entry_scan.specs.declared.range.KeyRange.{KeyRange};
 ghost use Rattle.online_model.specs.declared.life.Life.{Life};
 ghost use Rattle.online_model.specs.declared.life.Life.TheVariants.{Building, Complete};
 ghost use Rattle.online_model.specs.declared.note.Note.{Note};
@@ -15,6 +20,7 @@ ghost use Rattle.online_index.specs.Pieces.{IsSavedDuring};
 ghost use Rattle.online_index.specs.Standing.{IsCovered, StandsFor};
 ghost use Rattle.online_index.specs.Value.{IndexValue, held_by, reopened};
 
+use entry_scan::each_visible;
 use online_model::{any_stop, every_order};
 
 /// A law: an index that stands for a world, to which enabled steps of host and index led in any order, shows no pair
@@ -31,6 +37,19 @@ pub fn every_index()
         → (get v.entries p ≡ Some Mark.Live) ↔ IsOfRow w p }
 {
     every_order();
+}
+
+/// A law: once such an index is complete, and where no change is unfinished, the visible pairs of a range are exactly
+/// those of the rows whose keys are in it. They come in order, each once.
+pub fn every_range()
+    ensures ascending { (v : IndexValue) (range : KeyRange)
+        → IsStrictlySortedBy pair_cmp (visible v.entries range) }
+    ensures rows { (begun w : World) (steps : List Step) (v : IndexValue) → IsCreated begun → Runs begun steps w
+        → StandsFor v w → v.life ≡ Complete → IsQuiet w → (range : KeyRange) (p : Pair)
+        → Contains (visible v.entries range) p ↔ (IsOfRow w p × (is_within range p.key ≡ true)) }
+{
+    every_index();
+    each_visible();
 }
 
 /// A law: an index just created, over which the notes of any steps were redone in order, holds what the index held that

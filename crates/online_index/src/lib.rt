@@ -18,11 +18,13 @@ mod entries;
 mod index;
 mod laws;
 mod pieces;
+mod reading;
 mod walk;
 
 pub use build::{BuildStep, Stop};
 pub use entries::Entries;
+pub use entry_scan::{KeyRange, OrderedEntries, Page};
 pub use index::{Counts, OnlineIndex};
-pub use laws::{every_index, every_redo, every_reopening};
+pub use laws::{every_index, every_range, every_redo, every_reopening};
 pub use pieces::{NextMarked, Saved};
 pub use walk::{PageScan, Walk, is_page};

@@ -1,4 +1,4 @@
-use Rattle.std.proofs.Common.{None, Ok, ap, arith, rules, sym, ◌++◌, ◌<◌, ◌∙◌, ◌≡◌}
+use Rattle.std.proofs.Common.{None, Ok, ap, arith, refl, rules, sym, ◌++◌, ◌<◌, ◌∙◌, ◌≡◌}
 use Rattle.std.proofs.lemmas.List.{append-nil}
 use Rattle.std.specs.Result.{IsErr}
 use Rattle.online_index.proofs.Running.{err_count, is_count, more, no_run, none_made, none_noted, none_replied, one_replied, replied}
@@ -8,7 +8,7 @@ use Rattle.online_index.specs.Builds.{stop_of}
 use Rattle.online_index.specs.declared.build.Stop.TheVariants.{Most}
 
 pub loop-made-init : goal.loop-made-init
-loop-made-init g c = (no_run c.args.self.now c.args.notes.now.items, none_replied c.args.self.now c.args.notes.now.items)
+loop-made-init g c = (no_run c.args.self.now c.args.notes.now.items, none_replied c.args.self.now c.args.notes.now.items, refl)
 
 pub returns-in_err-step-clause-made : goal.returns-in_err-step-clause-made
 returns-in_err-step-clause-made g c = λ w h.
@@ -65,6 +65,7 @@ loop-made-preserved g c =
       one_replied c.args.self.now c.loop-made.made c.args.notes.now.items c.loop-made.notes.items c.build_noted.new.notes.items
           c.loop-made.self c.build_noted.new.self c.loop-made.invariant.1 c.in_ok-step.step c.in_ok-step.ensures.reply
           c.in_ok-step.ensures.made c.in_ok-step.ensures.attempts c.in_ok-step.ensures.notes goes_on,
+      c.build_noted.ensures.same_capacity ∙ c.loop-made.invariant.2,
     )
 
 pub returns-clause-made : goal.returns-clause-made

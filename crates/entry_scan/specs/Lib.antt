@@ -1,0 +1,4 @@
+pub mod Ranges
+pub mod Visible
+pub mod Readings
+pub mod Backward
