@@ -16,8 +16,6 @@
 //!
 //! Neither: that a page is returned where there is memory, how many entries are looked at, and time. Backward each
 //! entry is looked up by itself.
-//!
-//! Lemmas about its public words that crates above may cite, in `proofs`: `Filtered`, `Stepped` and `Paged`.
 #![tactic(auto)]
 
 mod backward;
