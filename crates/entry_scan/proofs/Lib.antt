@@ -1,8 +1,8 @@
-pub mod Filtered
+mod Filtered
 mod KeyOrder
-pub mod Stepped
+mod Stepped
 mod Listed
-pub mod Paged
+mod Paged
 mod ReadOver
 mod Counted
 mod Reversed
