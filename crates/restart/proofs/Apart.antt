@@ -33,7 +33,7 @@ leaves_parts past_of engine core records w parts forgets past is = record {
   many =
       let told : is.standing.made ≡ last_made past = ap (λ (x : Standing). x.made)
       (stands_over (opened (over past.geometry past.given)) (standing_at past.given.last)
-      (core_calls past.events past.replies) is.state is.standing is.served.served) in
+      (core_calls past.events past.replies) is.made is.state is.standing is.served.served) in
       omega (arith, told, is.served.number);
   writer = forgets (run_of past is.made) is.handed is.stands.writer;
   rest = is.stands.rest

@@ -24,7 +24,7 @@ use Rattle.model.proofs.GivenLaws.{given_again}
 use Rattle.core_model.specs.Events as core
 use Rattle.core_model.specs.Events.{Standing, standing_at}
 use Rattle.core_model.specs.Served as told
-use Rattle.core_model.specs.Served.{HasServed}
+use Rattle.core_model.specs.Served.{IsMadeOf}
 use Rattle.core_copies.specs.Lists.{HasLists}
 use Rattle.core_copies.specs.Pieces.{IsWholeOf}
 use Rattle.core_copies.specs.Shown.{IsCellsOf, list_shown}
@@ -145,16 +145,7 @@ module _ {M : Type 0} (past : Past M) (r : Reply M) (even : length past.replies 
         IsBeginning past.given (told.items_of no_writes pairs) floor left.given) no_call_more left.beginning;
     within = subst (λ (pairs : List (core.Event × core.Reply)).
         left.given.last ≤ (standing_over (standing_at past.given.last) pairs).made) no_call_more left.within;
-    records =
-        let is = left.records in
-        record {
-          made = is.made;
-          state = is.state;
-          standing = is.standing;
-          served = subst (λ (pairs : List (core.Event × core.Reply)). HasServed (over past.geometry past.given) is.made pairs is.state is.standing)
-              no_call_more is.served;
-          same = is.same;
-        };
+    records = subst (λ (pairs : List (core.Event × core.Reply)). IsMadeOf (over past.geometry past.given) pairs left.given) no_call_more left.records;
     opens = left.opens;
   }
 
