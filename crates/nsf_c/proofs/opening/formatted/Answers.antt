@@ -1,4 +1,4 @@
-use Rattle.std.proofs.Common.{arith, Result, Err, ◌≡◌, ◌<◌, ◌⊎◌, ◌↔◌, ⊎_elim, ap, subst, ◌∙◌}
+use Rattle.std.proofs.Common.{arith, rules, Result, Err, ◌≡◌, ◌<◌, ◌⊎◌, ◌↔◌, ⊎_elim, ap, subst, ◌∙◌}
 use Rattle.record_values.specs.declared.error.Error.{Error}
 use Rattle.record_values.specs.declared.error.Error.TheVariants.{DeviceTooSmall}
 use Rattle.std.proofs.lemmas.List.{length-replicate}
@@ -14,7 +14,20 @@ device_failed : {T : Type 0} (e : Error) (before now len size : ℕ) → (◌≡
 device_failed e before now len size small room = ⊎_elim (λ is. absurd (omega (arith, small.0 (ap Err is)))) (λ failed. failed)
 
 pub returns-in-Err : goal.returns-in-Err
-returns-in-Err c = ?
+returns-in-Err c =
+    let zeros = subst (λ (n : ℕ). (past_of c.in-Ok.disk).disk.content ≡ replicate n zero_sector) c.sectors.ensures c.in-Ok.ensures.zeros in
+    let room = ap (λ (image : List (List ℕ)). length image) zeros ∙ length-replicate {A = List ℕ} _ zero_sector in
+    let failed = device_failed _ _ _ _ _ c.in-Err.ensures.too_small room c.in-Err.ensures.refused in
+    record {
+      ok = tt;
+      err = record {
+        disk = c.in-Ok.disk;
+        is_disk = record { content = zeros; synced = c.in-Ok.ensures.synced; failures = c.in-Ok.ensures.failures };
+        writes = c.in-Err.ensures.outside;
+        fails = failed.1;
+      };
+    }
 
-pub returns-in-Ok : goal.returns-in-Ok
-returns-in-Ok c = ?
+-- what is answered where the store was made
+pub returns-in-Ok-format-clause-err : goal.returns-in-Ok-format-clause-err
+returns-in-Ok-format-clause-err c = search rules
