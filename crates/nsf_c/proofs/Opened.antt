@@ -8,9 +8,9 @@ use Rattle.record_values.specs.declared.error.Error.TheVariants.{TxnsActive, Ind
 use Rattle.record_values.specs.Refusals.{number_of}
 use Rattle.record_values.specs.GeometryValue.{GeometryValue, IsGeometry}
 use Rattle.sector_device.specs.Disk.{CrashState}
-use Rattle.nsf_c.specs.Calls.{Is, IsNotMade, IsNotOpened}
-use Rattle.nsf_c.specs.Handles.{Opened}
-use Rattle.nsf_c.specs.Unopened.{error_of, IsUnmade, IsUnopened}
+use Rattle.nsf_c.specs.Calls.{Is, IsDisk, IsMade, IsNotMade, IsNotOpened}
+use Rattle.nsf_c.specs.Handles.{Disk, Opened}
+use Rattle.nsf_c.specs.Unopened.{error_of, IsUnmade, IsUnopened, IsUnopenedOn}
 use Rattle.nsf_c.specs.declared.unopened.Unopened.{Unopened}
 use Rattle.nsf_c.specs.declared.unopened.Unopened.TheVariants as unopened
 use Rattle.nsf_c.specs.declared.held.Held.{Held}
@@ -62,6 +62,18 @@ err_map (Ok x) f p = tt
 err_map (Err e) f p = f e p
 
 -- ---- why nothing was made or opened
+
+-- on a disk of such a content
+pub unopened_on : (P : CrashState → Type 0) (disk : Disk) → IsDisk P disk → (e : Unopened) → IsUnopenedOn disk e → IsUnopened P e
+unopened_on P disk is unopened.NoMemory why = tt
+unopened_on P disk is (unopened.Failed after) why = absurd why
+unopened_on P disk is (unopened.Refused e after) why = (disk, is, why)
+
+-- on one on which such a store was made
+pub unmade_on : (g : GeometryValue) (disk : Disk) → IsDisk (IsMade g) disk → (e : Unopened) → IsUnopenedOn disk e → IsUnmade g e
+unmade_on g disk is unopened.NoMemory why = tt
+unmade_on g disk is (unopened.Failed after) why = absurd why
+unmade_on g disk is (unopened.Refused e after) why = (disk, is, why)
 
 -- as it is told to C
 pub not_opened : (sectors : CrashState) (e : Unopened) → IsUnopened (Is sectors) e → IsNotOpened sectors (number_of (error_of e))
