@@ -1,19 +1,33 @@
 #!/usr/bin/env python3
-"""Looks whether nsf.h declares what the library has. Usage: tools/check_header.py, anywhere in the repository.
+"""Looks whether a header declares what its library has. Usage: tools/check_header.py [--index], anywhere in the repository.
 
-The header's numbers of events and replies are those of kind.rt, and its refusals below 100 those of `number_of`, each with a text; its
-limits are the constants of the sources; its structs have the fields of the library's, and its functions the parameters of the
-exports, in order and by type. It ends with status 1 where something differs.
+Of nsf.h the numbers of events and replies are those of kind.rt, and its refusals below 100 those of `number_of`, each with a text; its
+limits are the constants of the sources. Of nsf_index.h (--index) each number is that of a constant of the sources, and each refusal has a
+text. The structs have the fields of the library's, and the functions the parameters of the exports, in order and by type. It ends with
+status 1 where something differs.
 """
 import pathlib, re, sys
 
 CRATES = pathlib.Path(__file__).resolve().parent.parent / "crates"
 TYPES = {"uint32_t": "u32", "uint64_t": "u64", "uint16_t": "u16", "uint8_t": "u8", "int32_t": "i32", "bool": "bool",
          "void": "None", "size_t": "usize", "void *": "*mut u8"}
-STRUCTS = {"nsf_event": ("asked", "Asked"), "nsf_place": ("spot", "Spot"), "nsf_reply": ("told", "Told"),
-           "nsf_status": ("told", "Stat"), "nsf_handle": ("handle", "Handle"), "nsf_bounds": ("bounds", "Bounds")}
-# The names of parameters that are others in the header.
-NAMES = {"asked": "event", "told": "reply", "stat": "status", "spots": "places", "room": "sectors"}
+# Of each header: its crate, the start of its names, the structs with the file that has each, the names of parameters that are others in
+# the header, and the files that have exports.
+NSF = {
+    "header": "nsf.h", "crate": "nsf_c", "start": "NSF_",
+    "structs": {"nsf_event": ("asked", "Asked"), "nsf_place": ("spot", "Spot"), "nsf_reply": ("told", "Told"),
+                "nsf_status": ("told", "Stat"), "nsf_handle": ("handle", "Handle"), "nsf_bounds": ("bounds", "Bounds")},
+    "names": {"asked": "event", "told": "reply", "stat": "status", "spots": "places", "room": "sectors"},
+    "files": ("opening", "saving", "scanning", "serving_calls"),
+}
+INDEX = {
+    "header": "nsf_index.h", "crate": "nsf_index_c", "start": "NSF_INDEX_",
+    "structs": {"nsf_index": ("handle", "Handle"), "nsf_index_pair": ("pair", "PairOfC"), "nsf_index_cursor": ("pair", "Cursor"),
+                "nsf_index_change": ("pair", "ChangeOfC"), "nsf_index_status": ("reading", "Stat")},
+    "names": {"handle": "index", "stat": "status"},
+    "files": ("opening", "changing", "building", "cleaning", "reading", "recording"),
+}
+IT = INDEX if "--index" in sys.argv[1:] else NSF
 FIRST_INLINE = 100  # the least number of a refusal that inline functions alone answer
 LIMITS = {"NSF_KEY_MAX": "record_values/src/key.rt", "NSF_BODY_MAX": "record_values/src/key.rt", "NSF_SLOTS_PER_PAGE": "record_values/src/rid.rt"}
 
@@ -32,7 +46,28 @@ def snake(name):
     return re.sub(r"(?<!^)([A-Z])", r"_\1", name).upper()
 
 
-def number_faults(header):
+def index_number_faults(header):
+    sources = "".join(path.read_text() for path in sorted((CRATES / "nsf_index_c/src").glob("*.rt")))
+    wanted = {name: int(number) for name, number in re.findall(r"const (\w+): u\w+ = (\d+);", sources)}
+    wanted["RECORD_ROOM"] = wanted.pop("FRAME_MAX")
+    spec = dict(re.findall(r"^number_of \(?(\w+)[^=]*= (\d+)", text("record_values/specs/Refusals.antt"), flags=re.M))
+    for name, error in {"NO_MEMORY": "NoMemory", "BAD_SIZE": "BadGeometry", "FULL": "IndexFull"}.items():
+        wanted[name] = int(spec[error])
+    for name, constant, path in (("KEY_MAX", "KEY_MAX", "record_values/src/key.rt"), ("SLOTS", "SLOTS_PER_PAGE", "record_values/src/rid.rt"),
+                                 ("RECORD_MAX", "NOTE_MAX", "online_notes/src/writing.rt"),
+                                 ("ENTRIES_MIN", "ENTRIES_MIN", "record_values/src/geometry.rt"),
+                                 ("ENTRIES_MAX", "LARGE_ENTRIES_MAX", "record_values/src/geometry.rt")):
+        wanted[name] = int(re.search(rf"const {constant}: \w+ = ([\d_]+)", text(path))[1].replace("_", ""))
+    found = {name: int(number) for name, number in re.findall(r"\bNSF_INDEX_(\w+) = (\d+)", header)}
+    if found != wanted:
+        yield f"numbers differ: {set(found.items()) ^ set(wanted.items())}"
+    texts = set(re.findall(r"case NSF_INDEX_(\w+): return", header))
+    refusals = set(re.search(r"enum \{([^}]*NSF_INDEX_OK [^}]*)\}", header)[1].split()) & {f"NSF_INDEX_{name}" for name in found}
+    if {f"NSF_INDEX_{name}" for name in texts} != refusals:
+        yield f"refusals and texts differ: {texts}, {refusals}"
+
+
+def nsf_number_faults(header):
     kinds = re.findall(r"pub const (\w+): u32 = (\d+);", text("nsf_c/src/kind.rt"))
     at = [name for name, _ in kinds].index("NO_SUCH_EVENT")
     lists = [("NSF_BEGIN", kinds[:at]), ("NSF_REFUSED", kinds[at + 1:])]
@@ -67,32 +102,32 @@ def c_type(declared):
     words = re.sub(r"\s+", " ", declared.strip())
     parts = re.fullmatch(r"(const )?(\w+) (\*?)\(?\*?(\w+)\)?(\[\w+\])?", words)
     const, base, star, name, room = parts.groups()
-    kind = STRUCTS[base][1] if base in STRUCTS else TYPES.get(f"{base} *" if star and base == "void" else base)
+    kind = IT["structs"][base][1] if base in IT["structs"] else TYPES.get(f"{base} *" if star and base == "void" else base)
     if room:
-        kind = f"[{kind};{room[1:-1].replace('NSF_', '')}]"
+        kind = f"[{kind};{room[1:-1].removeprefix(IT['start'])}]"
     return name, kind, bool(const), bool(star) or "(*" in words
 
 
 def struct_faults(header):
-    for name, (file, struct) in STRUCTS.items():
+    for name, (file, struct) in IT["structs"].items():
         body = re.search(rf"typedef struct {name} \{{(.*?)\}} {name};", header, flags=re.S)[1]
         there = [c_type(field)[:2] for field in body.split(";") if field.strip()]
-        source = re.sub(r"//[^\n]*", "", text(f"nsf_c/src/{file}.rt"))
+        source = re.sub(r"//[^\n]*", "", text(f"{IT['crate']}/src/{file}.rt"))
         body = re.search(rf"#\[repr\(C\)\](?:\s*#\[[^\]]*\])*\s*pub struct {struct} \{{(.*?)\n\}}", source, flags=re.S)[1]
         body = re.sub(r"\s*(?:pub )?ghost[^\n]*", "", body)
         fields = re.findall(r"(\w+): ([^,\n]+),", body)
-        wanted = [(field, re.sub(r"\s", "", kind).replace("*mutu8", "*mut u8")) for field, kind in fields]
+        wanted = [(field, re.sub(r"\s", "", kind).replace("*mutu8", "*mut u8").replace("Pointer", "*mut u8")) for field, kind in fields]
         if there != wanted:
             yield f"{name}: {there}, but {struct}: {wanted}"
 
 
 def parameters(listed):
     """The export's parameters as C has them: a slice is a pointer and a length."""
-    for parameter in re.split(r",\s*(?![^\[]*\])", listed.strip().rstrip(",")):
+    for parameter in filter(None, re.split(r",\s*(?![^\[]*\])", listed.strip().rstrip(","))):
         name, kind = parameter.strip().split(": ", 1)
         if kind == "Global":
             continue
-        name = NAMES.get(name, name)
+        name = IT["names"].get(name, name)
         mutable = kind.startswith("&mut ")
         inner = kind.removeprefix("&mut ").removeprefix("&")
         slice_of = re.fullmatch(r"\[(.*)\]", inner) if kind.startswith("&") else None
@@ -104,11 +139,11 @@ def parameters(listed):
 
 def declared(listed):
     """The header's parameters in the same form: a pointer before a length is a slice."""
-    found = [c_type(p) for p in listed.split(",")]
+    found = [c_type(p) for p in listed.split(",") if p != "void"]
     at = 0
     while at < len(found):
         name, kind, const, pointer = found[at]
-        if at + 1 < len(found) and pointer and found[at + 1][1] == "usize":
+        if at + 1 < len(found) and pointer and found[at + 1][1] == "usize" and not found[at + 1][3]:
             yield f"{name}[]", kind, not const
             at += 2
         else:
@@ -117,8 +152,7 @@ def declared(listed):
 
 
 def export_faults(header):
-    files = ("opening", "saving", "scanning", "serving_calls")
-    source = "".join(re.sub(r"//[^\n]*", "", text(f"nsf_c/src/{file}.rt")) for file in files)
+    source = "".join(re.sub(r"//[^\n]*", "", text(f"{IT['crate']}/src/{file}.rt")) for file in IT["files"])
     exports = re.findall(r'pub extern "C" fn (\w+)\((.*?)\)(?: -> (\w+))?\s*(?:requires|ensures|\{)', source, flags=re.S)
     for name, listed, result in exports:
         there = re.search(rf"^(\w+) {name}\((.*?)\);", header, flags=re.S | re.M)
@@ -133,12 +167,13 @@ def export_faults(header):
 
 
 def main():
-    header = text("nsf_c/include/nsf.h")
+    header = text(f"{IT['crate']}/include/{IT['header']}")
     code = re.sub(r"/\*.*?\*/", "", header, flags=re.S)
+    number_faults = index_number_faults if IT is INDEX else nsf_number_faults
     faults = [*number_faults(code), *struct_faults(code), *export_faults(code)]
     for fault in faults:
         print(fault)
-    print(f"nsf.h: {len(faults)} faults")
+    print(f"{IT['header']}: {len(faults)} faults")
     sys.exit(1 if faults else 0)
 
 

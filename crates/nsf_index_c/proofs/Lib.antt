@@ -1,0 +1,6 @@
+mod Values
+mod Fields
+mod Flags
+mod Filling
+mod Applied
+mod Frames

@@ -1,0 +1,13 @@
+pub mod Full
+pub mod Owned
+pub mod Numbers
+pub mod Seen
+pub mod Handles
+pub mod Pairs
+pub mod Changing
+pub mod Applying
+pub mod Opening
+pub mod Building
+pub mod Cleaning
+pub mod Reading
+pub mod Recording
