@@ -1,0 +1,82 @@
+/* A host of two indexes, over a store that has one writing transaction at a time: it keeps the duties that nsf_index.h names.
+ *
+ *  H1  part.c has a lock for each index, held for one call.
+ *  H2  A transaction holds `writing` from its beginning to the end of its commit, or of its rollback.
+ *  H3  host_prepare is called before a row changes, and host_put after it (session_put, or the triggers of SQLite).
+ *  H4  host.c keeps the changes of the open transaction, and takes them back in the reverse order.
+ *  H5  The builder reads its pages from snapshots of the store, with no lock.
+ *  H6  host_create_index holds `writing`, and so no change is under way; it names the pages of all rows.
+ *  H7  The cleaner holds `writing`, and so no change waits for its end.
+ *  H8  Records are logged by the transaction that commits next, in the order of the calls. Those of a transaction that was rolled back,
+ *      and of the changes that took it back, are logged by a transaction of their own, before `writing` is given up.
+ *  H9  host_open redoes the checkpoint and the log. No transaction is unfinished then: the store shows none of its changes. */
+#ifndef HOST_H
+#define HOST_H
+#include "store.h"
+
+enum { ENTRIES_MOST = 4000000 };
+
+/* A change of the open transaction, for one index. */
+typedef struct change {
+    int which;
+    uint32_t number;
+    bool had, has;
+    uint8_t old[KEY_BYTES], next[KEY_BYTES];
+} change;
+
+/* Where the records of an index stand. Streams have rising numbers; those that are named here are in use. */
+typedef struct streams {
+    uint64_t log, from; /* the log, and the place from which on it is redone */
+    uint64_t saved;     /* the checkpoint, or 0 */
+    uint64_t newest;
+    uint32_t pages;
+} streams;
+
+typedef struct host {
+    pthread_mutex_t writing;
+    part parts[INDEXES];
+    bytes waiting[INDEXES];      /* records that no commit has logged yet; under `writing` */
+    streams streams[INDEXES];    /* under `writing` */
+    uint64_t next[INDEXES];      /* the next place of the log; under `writing` */
+    atomic_ulong logged[INDEXES]; /* how many of the builder's steps were logged */
+    change *changes;             /* of the open transaction; under `writing` */
+    size_t count, room;
+    store *store;
+    atomic_ulong commits, redone, longest; /* the longest time that `writing` was held for the builder or the cleaner, in nanoseconds */
+} host;
+
+/* What a thread has of a host. */
+typedef struct session {
+    host *host;
+    connection *connection;
+    bool is_writing;
+} session;
+
+host *host_open(const char *folder, bool is_synced);
+void host_close(host *host);
+session *session_open(host *host);
+void session_close(session *session);
+
+/* A transaction. A refused change has changed nothing, and the transaction may go on. A commit that returns false has rolled back. */
+void session_begin(session *session);
+uint32_t session_put(session *session, uint32_t number, const row *row);
+uint32_t session_delete(session *session, uint32_t number);
+bool session_commit(session *session);
+void session_roll_back(session *session);
+
+/* Before and after a row changes: what it is, or NULL, and what it is to be, or NULL. */
+uint32_t host_prepare(host *host, uint32_t number, const row *old, const row *next);
+void host_put(host *host, uint32_t number, const row *old, const row *next);
+
+/* Indexes. A stretch of a build reads a page, or makes so many steps; the build is at its end where it returns false. */
+bool host_create_index(session *session, int which);
+void host_drop_index(session *session, int which);
+bool host_build(session *session, int which, uint32_t most);
+uint32_t host_clean(session *session, int which, place *from, uint32_t most);
+void host_checkpoint(session *session, int which);
+
+/* The entries of an index above a place, up to a key: at most so many; the place goes on. No change of another transaction is among them.
+ * (Row numbers begin at 1, so that the place before a key is above no entry of it.) */
+place before(const uint8_t *key);
+size_t host_range(session *session, int which, place *from, const uint8_t *high, entry *entries, size_t room);
+#endif
