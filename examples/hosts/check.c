@@ -46,11 +46,12 @@ checked check_index(session *session, int which)
     checked.is_complete = reach.is_complete;
     check_entries(session, which, &checked);
     check_rows(session, which, &reach, &checked);
+    checked.is_refused = reach.is_complete && !store_check(session->connection, which);
     session_commit(session);
     return checked;
 }
 
 bool is_exact(const checked *checked)
 {
-    return !checked->of_no_row && !checked->in_no_entry && (!checked->is_complete || checked->visible == checked->rows);
+    return !checked->is_refused && !checked->of_no_row && !checked->in_no_entry && (!checked->is_complete || checked->visible == checked->rows);
 }

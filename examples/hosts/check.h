@@ -7,7 +7,7 @@ typedef struct checked {
     uint64_t rows, visible, marked;
     uint64_t of_no_row;     /* visible entries of which no row has the key */
     uint64_t in_no_entry;   /* rows whose entry isn't visible, though the build has passed it */
-    bool is_complete;
+    bool is_complete, is_refused;    /* whether the store's own check found a fault */
 } checked;
 
 /* Looks each visible entry of an index up in the rows, and each row in the entries. No transaction is open meanwhile. */

@@ -37,7 +37,7 @@ typedef struct host {
     part parts[INDEXES];
     bytes waiting[INDEXES];      /* records that no commit has logged yet; under `writing` */
     streams streams[INDEXES];    /* under `writing` */
-    uint64_t next[INDEXES];      /* the next place of the log; under `writing` */
+    atomic_ulong next[INDEXES];  /* the next place of the log; set under `writing` */
     atomic_ulong logged[INDEXES]; /* how many of the builder's steps were logged */
     change *changes;             /* of the open transaction; under `writing` */
     size_t count, room;

@@ -16,12 +16,13 @@
 #include <sys/wait.h>
 #include <unistd.h>
 
-enum { WRITERS = 4, CHANGES_MOST = 4, STEPS = 64, CLEANED = 64, LOG_MOST = 4000, FIRST_MS = 100, MORE_MS = 500, KEYS = 1000000 };
+enum { WRITERS = 4, CHANGES_MOST = 4, STEPS = 64, CLEANED = 64, LOG_MOST = 2000, TIDY_EACH = 16, FIRST_MS = 100, MORE_MS = 500, OPENING_MOST_MS = 20000, KEYS = 1000000 };
+#define LAST_NS 1000000000
 
 /* What all processes together did: it outlives them. */
 typedef struct totals {
     atomic_ulong commits, rolled_back, builds, checkpoints, cleaned, redone, checks, kills_in_build;
-    atomic_bool is_building;
+    atomic_bool is_writing, is_building;
 } totals;
 
 typedef struct worker {
@@ -114,20 +115,28 @@ static void check_both(session *session, const char *when)
 
 /* ---- the builder */
 
-/* Builds the second index to its end, cleans both as it goes, and takes a checkpoint where a log has grown long. */
-static void build_once(session *session, place *cleaned)
+/* Cleans both indexes, and takes a checkpoint of each whose log has grown long. */
+static void tidy(session *session, place *cleaned)
 {
     host *host = session->host;
+    for (int which = 0; which < INDEXES; which++) {
+        atomic_fetch_add(&totals_of_all->cleaned, host_clean(session, which, &cleaned[which], CLEANED));
+        if (atomic_load(&host->next[which]) < host->streams[which].from + LOG_MOST)
+            continue;
+        host_checkpoint(session, which);
+        atomic_fetch_add(&totals_of_all->checkpoints, 1);
+    }
+}
+
+/* Builds the second index to its end. */
+static void build_once(session *session, place *cleaned)
+{
     atomic_store(&totals_of_all->is_building, true);
-    for (bool goes_on = true; goes_on && !atomic_load(&has_ended);) {
+    bool goes_on = true;
+    for (int stretch = 1; goes_on && !atomic_load(&has_ended); stretch++) {
         goes_on = host_build(session, 1, STEPS);
-        for (int which = 0; which < INDEXES; which++) {
-            atomic_fetch_add(&totals_of_all->cleaned, host_clean(session, which, &cleaned[which], CLEANED));
-            if (host->next[which] < host->streams[which].from + LOG_MOST)
-                continue;
-            host_checkpoint(session, which);
-            atomic_fetch_add(&totals_of_all->checkpoints, 1);
-        }
+        if (stretch % TIDY_EACH == 0)
+            tidy(session, cleaned);
     }
     atomic_store(&totals_of_all->is_building, false);
 }
@@ -157,6 +166,7 @@ static void live(const char *folder, uint64_t seed, uint64_t lasts)
     session *session = session_open(host);
     atomic_fetch_add(&totals_of_all->redone, atomic_load(&host->redone));
     check_both(session, "after opening");
+    atomic_store(&totals_of_all->is_writing, true);
     for (int i = 0; i < WRITERS; i++) {
         workers[i] = (worker){.host = host, .random = seed * WRITERS + (uint64_t)i + 1};
         pthread_create(&threads[i], NULL, write_rows, &workers[i]);
@@ -202,27 +212,38 @@ static void end_if_failed(int status)
     exit(1);
 }
 
-/* A process that lives until it is killed, or until it ends by itself. */
-static void run_process(const char *folder, int kill_after_ms, uint64_t seed, uint64_t lasts)
+/* Waits until the process writes, or, one time in five, not even that: opening is killed too. */
+static void kill_later(pid_t child, uint64_t *random)
+{
+    bool waits = draw(random, 5) != 0;
+    for (int i = 0; i < OPENING_MOST_MS && waits && !atomic_load(&totals_of_all->is_writing); i++)
+        usleep(1000);
+    usleep((useconds_t)(1000 * (FIRST_MS + draw(random, MORE_MS))));
+    if (atomic_load(&totals_of_all->is_building))
+        atomic_fetch_add(&totals_of_all->kills_in_build, 1);
+    kill(child, SIGKILL);
+}
+
+/* A process that makes the table (where `lasts` is 0), lives until it is killed, or ends by itself. */
+static void run_process(const char *folder, uint64_t *random, uint64_t lasts)
 {
     int status;
+    uint64_t seed = draw(random, UINT32_MAX) + 1;
+    atomic_store(&totals_of_all->is_writing, false);
+    atomic_store(&totals_of_all->is_building, false);
     pid_t child = fork();
     if (!child) {
-        if (seed)
+        if (lasts)
             live(folder, seed, lasts);
         else
             begin(folder);
         _exit(0);
     }
-    if (kill_after_ms) {
-        usleep((useconds_t)kill_after_ms * 1000);
-        if (atomic_load(&totals_of_all->is_building))
-            atomic_fetch_add(&totals_of_all->kills_in_build, 1);
-        kill(child, SIGKILL);
-    }
+    bool is_killed = lasts == UINT64_MAX;
+    if (is_killed)
+        kill_later(child, random);
     waitpid(child, &status, 0);
-    atomic_store(&totals_of_all->is_building, false);
-    if (!(kill_after_ms && WIFSIGNALED(status) && WTERMSIG(status) == SIGKILL))
+    if (!(is_killed && WIFSIGNALED(status) && WTERMSIG(status) == SIGKILL))
         end_if_failed(status);
 }
 
@@ -230,16 +251,16 @@ int main(int count, char **words)
 {
     if (count < 4)
         return 2;
-    uint64_t random = count > 4 ? strtoull(words[4], NULL, 10) : 1;
+    uint64_t random = count > 4 ? strtoull(words[4], NULL, 10) + 1 : 1;
     int kills = atoi(words[3]);
     rows_at_first = (uint32_t)atoi(words[2]);
     totals_of_all = mmap(NULL, sizeof *totals_of_all, PROT_READ | PROT_WRITE, MAP_SHARED | MAP_ANONYMOUS, -1, 0);
     if (totals_of_all == MAP_FAILED)
         return 2;
-    run_process(words[1], 0, 0, 0);
+    run_process(words[1], &random, 0);
     for (int i = 0; i < kills; i++)
-        run_process(words[1], FIRST_MS + (int)draw(&random, MORE_MS), draw(&random, UINT32_MAX) + 1, UINT64_MAX);
-    run_process(words[1], 0, draw(&random, UINT32_MAX) + 1, 1000000000);
+        run_process(words[1], &random, UINT64_MAX);
+    run_process(words[1], &random, LAST_NS);
     totals *all = totals_of_all;
     printf("%d kills, %lu of them while an index was built; %lu commits, %lu rolled back, %lu builds to the end, %lu checkpoints, "
            "%lu entries cleaned, %lu records redone; %lu checks of an index, each exact\n",

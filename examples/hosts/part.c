@@ -237,9 +237,10 @@ bool part_is_visible(part *part, uint32_t number, const uint8_t *key)
 
 static nsf_index_stat stat_of(part *part)
 {
-    nsf_index_stat stat;
+    nsf_index_stat stat = {.entries = 0};
     lock_for_change(part);
-    nsf_index_stat_of(&part->index, &stat);
+    if (part->is_open)
+        nsf_index_stat_of(&part->index, &stat);
     unlock(part);
     return stat;
 }

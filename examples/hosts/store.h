@@ -48,6 +48,9 @@ void store_write(connection *connection, record_key key, const uint8_t *bytes, s
 void store_each(connection *connection, record_key low, record_key high, visitor visit, void *context);
 uint32_t store_remove(connection *connection, record_key low, record_key high, uint32_t most);
 
+/* Checks a complete index further, by means of the store's own, in a transaction that writes. */
+bool store_check(connection *connection, int which);
+
 /* Says why, and ends the process. */
 _Noreturn void stop(const char *what, const char *why);
 #endif

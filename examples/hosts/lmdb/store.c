@@ -283,3 +283,10 @@ uint32_t store_remove(connection *connection, record_key low, record_key high, u
     mdb_cursor_close(cursor);
     return removed;
 }
+
+/* LMDB has no queries of its own. */
+bool store_check(connection *connection, int which)
+{
+    (void)connection, (void)which;
+    return true;
+}

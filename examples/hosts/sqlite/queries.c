@@ -1,0 +1,26 @@
+/* The check of a complete index by queries. */
+#include "connection.h"
+
+#include <stdio.h>
+
+/* How many entries the whole range has, how many of them have the key of their row, how many rows there are, and for how many keys the
+ * function finds another row than the least. */
+static const char query[] =
+    "SELECT count(*), sum(%c = key),"
+    "    (SELECT count(*) FROM rows),"
+    "    (SELECT count(*) FROM (SELECT %c AS wanted, min(number) AS least FROM rows GROUP BY %c)"
+    "        WHERE online_index_find(wanted, %d) IS NOT least)"
+    " FROM online_index_range(x'', x'', %d) LEFT JOIN rows USING (number)";
+
+bool store_check(connection *connection, int which)
+{
+    char text[sizeof query + 32], column = which ? 'b' : 'a';
+    sqlite3_stmt *statement;
+    snprintf(text, sizeof text, query, column, column, column, which, which);
+    if (sqlite3_prepare_v2(connection->database, text, -1, &statement, NULL) != SQLITE_OK || sqlite3_step(statement) != SQLITE_ROW)
+        stop("check", sqlite3_errmsg(connection->database));
+    sqlite3_int64 entries = sqlite3_column_int64(statement, 0), fitting = sqlite3_column_int64(statement, 1);
+    sqlite3_int64 rows = sqlite3_column_int64(statement, 2), unlike = sqlite3_column_int64(statement, 3);
+    sqlite3_finalize(statement);
+    return entries == rows && fitting == rows && unlike == 0;
+}
