@@ -24,10 +24,8 @@ void stop(const char *what, const char *why)
 
 static void stop_if(uint32_t refused, const char *what)
 {
-    char why[32];
-    snprintf(why, sizeof why, "refused, %u", (unsigned)refused);
     if (refused)
-        stop(what, why);
+        stop(what, nsf_index_message(refused));
 }
 
 static record_key key_of(int which, uint64_t stream, uint64_t place)
@@ -205,7 +203,7 @@ bool host_create_index(session *session, int which)
     uint32_t last = 0;
     session_begin(session);
     store_last(session->connection, &last);
-    uint32_t refused = part_open(&host->parts[which], ENTRIES_MOST, last / PAGE_ROWS + 1);
+    uint32_t refused = part_open(&host->parts[which], ENTRIES_MOST, last / NSF_INDEX_SLOTS + 1);
     if (!refused) {
         streams->pages = host->parts[which].pages;
         streams->log = ++streams->newest;
@@ -275,35 +273,39 @@ static void rest(uint64_t worked)
     nanosleep(&time, NULL);
 }
 
+/* H5: the page is read from a snapshot, with no lock. */
+static void hand_over(session *session, int which, uint32_t page)
+{
+    nsf_index_pair pairs[NSF_INDEX_SLOTS];
+    size_t count = store_read_page(session->connection, which, page, pairs);
+    stop_if(part_take_page(&session->host->parts[which], page, pairs, count), "take page");
+}
+
 bool host_build(session *session, int which, uint32_t most)
 {
     host *host = session->host;
-    part *part = &host->parts[which];
-    entry entries[PAGE_ROWS];
-    stretch reached;
-    uint32_t page;
-    if (part_wants_page(part, &page)) {
-        size_t count = store_read_page(session->connection, which, page, entries);
-        stop_if(part_take_page(part, page, entries, count), "take page");
-        return true;
-    }
+    uint32_t stop = NSF_INDEX_MORE, page = 0;
     unsigned long commits = atomic_load(&host->commits);
     uint64_t began = nanoseconds();
-    stop_if(part_build(part, most, &reached), "build");
+    stop_if(part_build(&host->parts[which], most, &stop, &page), "build");
     uint64_t worked = nanoseconds() - began;
-    log_build(session, which, reached == STRETCH_COMPLETE);
+    if (stop == NSF_INDEX_WANTS_PAGE) {
+        hand_over(session, which, page);
+        return true;
+    }
+    log_build(session, which, stop == NSF_INDEX_IS_COMPLETE);
     if (commits != atomic_load(&host->commits))
         rest(worked);
-    return reached != STRETCH_COMPLETE;
+    return stop != NSF_INDEX_IS_COMPLETE;
 }
 
 /* H7: no change waits for its end while `writing` is held. The next commit logs what was taken out. */
-uint32_t host_clean(session *session, int which, place *from, uint32_t most)
+uint32_t host_clean(session *session, int which, nsf_index_cursor *cursor, uint32_t most)
 {
     uint32_t cleaned = 0;
     pthread_mutex_lock(&session->host->writing);
     uint64_t began = nanoseconds();
-    stop_if(part_clean(&session->host->parts[which], from, most, &cleaned), "clean");
+    stop_if(part_clean(&session->host->parts[which], cursor, most, &cleaned), "clean");
     note_longest(session->host, began);
     pthread_mutex_unlock(&session->host->writing);
     return cleaned;
@@ -325,16 +327,16 @@ void host_checkpoint(session *session, int which)
     streams *streams = &host->streams[which];
     part *part = &host->parts[which];
     bytes piece = {0}, *waiting = &host->waiting[which];
-    place from = {.is_above = false};
+    nsf_index_cursor cursor = NSF_INDEX_FIRST;
     uint64_t pieces = 0;
     session_begin(session);
     uint64_t stream = ++streams->newest, begun = host->next[which];
-    stop_if(part_save_reach(part, waiting, &piece), "save");
+    stop_if(part_save_life(part, waiting, &piece), "save");
     write_piece(session, which, stream, &pieces, &piece);
     commit_or_stop(session, "save");
     for (bool is_last = false; !is_last;) {
         session_begin(session);
-        stop_if(part_save(part, waiting, &from, PIECE_ENTRIES, &piece, &is_last), "save");
+        stop_if(part_save(part, waiting, &cursor, PIECE_ENTRIES, &piece, &is_last), "save");
         write_piece(session, which, stream, &pieces, &piece);
         commit_or_stop(session, "save");
     }
@@ -363,9 +365,8 @@ static void load_streams(void *context, uint64_t place, const uint8_t *bytes, si
 static void redo(void *context, uint64_t place, const uint8_t *bytes, size_t length)
 {
     loading *loading = context;
-    uint64_t count = 0;
-    stop_if(part_redo(&loading->host->parts[loading->which], bytes, length, &count), "redo");
-    atomic_fetch_add(&loading->host->redone, count);
+    stop_if(part_redo(&loading->host->parts[loading->which], bytes, length), "redo");
+    atomic_fetch_add(&loading->host->redone, length);
     loading->host->next[loading->which] = place + 1;
 }
 
@@ -378,12 +379,12 @@ static void load(session *session, int which)
     session_begin(session);
     store_each(session->connection, key_of(which, 0, 0), key_of(which, 1, 0), load_streams, &loading);
     if (streams->pages) {
-        stop_if(part_open(&host->parts[which], ENTRIES_MOST, streams->pages), "open");
+        stop_if(part_empty(&host->parts[which], ENTRIES_MOST, streams->pages), "open");
         if (streams->saved)
             store_each(session->connection, key_of(which, streams->saved, 0), key_of(which, streams->saved + 1, 0), redo, &loading);
         host->next[which] = streams->from;
         store_each(session->connection, key_of(which, streams->log, streams->from), key_of(which, streams->log + 1, 0), redo, &loading);
-        part_reopen(&host->parts[which]);
+        stop_if(part_reopen(&host->parts[which]), "reopen");
     }
     commit_or_stop(session, "open");
     if (streams->newest)
@@ -436,28 +437,13 @@ void session_close(session *session)
 
 /* ---- reading */
 
-place before(const uint8_t *key)
+size_t host_range(session *session, int which, range *range, nsf_index_pair *pairs, size_t room)
 {
-    place place = {.is_above = true};
-    memcpy(place.at.key, key, KEY_BYTES);
-    return place;
-}
-
-size_t host_range(session *session, int which, place *from, const uint8_t *high, entry *entries, size_t room)
-{
-    host *host = session->host;
     bool is_writing = session->is_writing;
-    size_t count = 0;
-    walked walked = WALK_VISIBLE;
     if (!is_writing)
-        pthread_mutex_lock(&host->writing);
-    while (host->parts[which].is_open && count < room && walked != WALK_ENDS) {
-        walked = part_next(&host->parts[which], from, &entries[count]);
-        if (walked == WALK_VISIBLE && memcmp(entries[count].key, high, KEY_BYTES) > 0)
-            walked = WALK_ENDS;
-        count += walked == WALK_VISIBLE;
-    }
+        pthread_mutex_lock(&session->host->writing);
+    size_t count = part_range(&session->host->parts[which], range, pairs, room);
     if (!is_writing)
-        pthread_mutex_unlock(&host->writing);
+        pthread_mutex_unlock(&session->host->writing);
     return count;
 }

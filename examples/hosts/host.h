@@ -42,7 +42,8 @@ typedef struct host {
     change *changes;             /* of the open transaction; under `writing` */
     size_t count, room;
     store *store;
-    atomic_ulong commits, redone, longest; /* the longest time that `writing` was held for the builder or the cleaner, in nanoseconds */
+    atomic_ulong commits, redone; /* redone: bytes of records */
+    atomic_ulong longest; /* the longest time that `writing` was held for the builder or the cleaner, in nanoseconds */
 } host;
 
 /* What a thread has of a host. */
@@ -72,11 +73,9 @@ void host_put(host *host, uint32_t number, const row *old, const row *next);
 bool host_create_index(session *session, int which);
 void host_drop_index(session *session, int which);
 bool host_build(session *session, int which, uint32_t most);
-uint32_t host_clean(session *session, int which, place *from, uint32_t most);
+uint32_t host_clean(session *session, int which, nsf_index_cursor *cursor, uint32_t most);
 void host_checkpoint(session *session, int which);
 
-/* The entries of an index above a place, up to a key: at most so many; the place goes on. No change of another transaction is among them.
- * (Row numbers begin at 1, so that the place before a key is above no entry of it.) */
-place before(const uint8_t *key);
-size_t host_range(session *session, int which, place *from, const uint8_t *high, entry *entries, size_t room);
+/* The visible entries of a range, among the next so many. No change of another transaction is among them. */
+size_t host_range(session *session, int which, range *range, nsf_index_pair *pairs, size_t room);
 #endif

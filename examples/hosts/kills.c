@@ -116,7 +116,7 @@ static void check_both(session *session, const char *when)
 /* ---- the builder */
 
 /* Cleans both indexes, and takes a checkpoint of each whose log has grown long. */
-static void tidy(session *session, place *cleaned)
+static void tidy(session *session, nsf_index_cursor *cleaned)
 {
     host *host = session->host;
     for (int which = 0; which < INDEXES; which++) {
@@ -129,7 +129,7 @@ static void tidy(session *session, place *cleaned)
 }
 
 /* Builds the second index to its end. */
-static void build_once(session *session, place *cleaned)
+static void build_once(session *session, nsf_index_cursor *cleaned)
 {
     atomic_store(&totals_of_all->is_building, true);
     bool goes_on = true;
@@ -143,7 +143,7 @@ static void build_once(session *session, place *cleaned)
 
 static void build_again(session *session, uint64_t lasts)
 {
-    place cleaned[INDEXES] = {{.is_above = false}};
+    nsf_index_cursor cleaned[INDEXES] = {NSF_INDEX_FIRST, NSF_INDEX_FIRST};
     uint64_t began = nanoseconds();
     while (nanoseconds() - began < lasts) {
         if (!session->host->parts[1].is_open && !host_create_index(session, 1))
@@ -152,7 +152,7 @@ static void build_again(session *session, uint64_t lasts)
         check_both(session, "once it was built");
         atomic_fetch_add(&totals_of_all->builds, 1);
         host_drop_index(session, 1);
-        cleaned[1].is_above = false;
+        cleaned[1] = (nsf_index_cursor)NSF_INDEX_FIRST;
     }
 }
 
@@ -263,7 +263,7 @@ int main(int count, char **words)
     run_process(words[1], &random, LAST_NS);
     totals *all = totals_of_all;
     printf("%d kills, %lu of them while an index was built; %lu commits, %lu rolled back, %lu builds to the end, %lu checkpoints, "
-           "%lu entries cleaned, %lu records redone; %lu checks of an index, each exact\n",
+           "%lu entries cleaned, %lu bytes of records redone; %lu checks of an index, each exact\n",
            kills, all->kills_in_build, all->commits, all->rolled_back, all->builds, all->checkpoints, all->cleaned, all->redone, all->checks);
     return 0;
 }

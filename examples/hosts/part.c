@@ -8,7 +8,8 @@
 #include <string.h>
 #include <time.h>
 
-enum { FIRST_ROOM = 4096, RECORD_ROOM = NSF_INDEX_RECORD_MAX + 1, CHECKPOINT_RECORD = 4, COMPLETE_RECORD = 6 };
+/* RESERVED records may wait without a refusal for want of memory: more than a stretch of the builder and a transaction leave. */
+enum { FIRST_ROOM = 4096, RESERVED = 8192 };
 
 uint64_t nanoseconds(void)
 {
@@ -29,7 +30,7 @@ void bytes_reserve(bytes *bytes, size_t more)
     uint8_t *at = realloc(bytes->at, room);
     if (!at) {
         fprintf(stderr, "part: no memory for records\n");
-        exit(3);
+        _Exit(3);
     }
     bytes->at = at;
     bytes->room = room;
@@ -39,30 +40,6 @@ void bytes_free(bytes *bytes)
 {
     free(bytes->at);
     memset(bytes, 0, sizeof *bytes);
-}
-
-/* ---- pairs */
-
-static nsf_index_pair pair_of(uint32_t number, const uint8_t *key)
-{
-    nsf_index_pair pair = {.page = number / PAGE_ROWS, .slot = (uint16_t)(number % PAGE_ROWS), .length = KEY_BYTES};
-    memcpy(pair.key, key, KEY_BYTES);
-    return pair;
-}
-
-static entry entry_of(const nsf_index_pair *pair)
-{
-    entry entry = {.number = pair->page * PAGE_ROWS + pair->slot};
-    memcpy(entry.key, pair->key, KEY_BYTES);
-    return entry;
-}
-
-int compare_entries(const entry *left, const entry *right)
-{
-    int order = memcmp(left->key, right->key, KEY_BYTES);
-    if (order)
-        return order;
-    return left->number < right->number ? -1 : left->number > right->number;
 }
 
 /* ---- the lock */
@@ -93,6 +70,8 @@ static void unlock(part *part)
     pthread_mutex_unlock(&part->lock);
 }
 
+/* ---- beginning and end */
+
 void part_make(part *part)
 {
     pthread_mutexattr_t kind;
@@ -109,12 +88,30 @@ void part_destroy(part *part)
     pthread_mutex_destroy(&part->lock);
 }
 
+static uint32_t open_with(part *part, uint32_t refused, uint32_t pages)
+{
+    if (refused)
+        return refused;
+    refused = nsf_index_reserve(&part->index, RESERVED);
+    if (refused)
+        nsf_index_close(&part->index);
+    part->is_open = !refused;
+    part->pages = pages;
+    return refused;
+}
+
 uint32_t part_open(part *part, uint32_t entries, uint32_t pages)
 {
     lock_for_change(part);
-    uint32_t refused = nsf_index_create(&part->index, entries, pages);
-    part->is_open = !refused;
-    part->pages = pages;
+    uint32_t refused = open_with(part, nsf_index_create(&part->index, entries, pages), pages);
+    unlock(part);
+    return refused;
+}
+
+uint32_t part_empty(part *part, uint32_t entries, uint32_t pages)
+{
+    lock_for_change(part);
+    uint32_t refused = open_with(part, nsf_index_empty(&part->index, entries), pages);
     unlock(part);
     return refused;
 }
@@ -122,10 +119,8 @@ uint32_t part_open(part *part, uint32_t entries, uint32_t pages)
 void part_close(part *part)
 {
     lock_for_change(part);
-    if (part->is_open)
-        nsf_index_close(&part->index);
+    nsf_index_close(&part->index); /* refused where none is open, and nothing is done then */
     part->is_open = false;
-    part->index = (nsf_index){0};
     unlock(part);
 }
 
@@ -133,20 +128,18 @@ void part_close(part *part)
 
 uint32_t part_prepare(part *part, uint32_t number, const uint8_t *old, const uint8_t *next)
 {
-    nsf_index_pair pairs[2];
-    if (old)
-        pairs[0] = pair_of(number, old);
-    if (next)
-        pairs[1] = pair_of(number, next);
+    nsf_index_pair old_pair = nsf_index_pair_of(number, old, old ? KEY_BYTES : 0);
+    nsf_index_pair new_pair = nsf_index_pair_of(number, next, next ? KEY_BYTES : 0);
+    nsf_index_change change = nsf_index_change_of(old ? &old_pair : NULL, next ? &new_pair : NULL);
     lock_for_change(part);
-    uint32_t refused = nsf_index_prepare(&part->index, &pairs[0], old != NULL, &pairs[1], next != NULL);
+    uint32_t refused = nsf_index_prepare(&part->index, &change);
     unlock(part);
     return refused;
 }
 
 uint32_t part_put(part *part, uint32_t number, const uint8_t *key)
 {
-    nsf_index_pair pair = pair_of(number, key);
+    nsf_index_pair pair = nsf_index_pair_of(number, key, KEY_BYTES);
     lock_for_change(part);
     uint32_t refused = nsf_index_put(&part->index, &pair);
     unlock(part);
@@ -155,104 +148,105 @@ uint32_t part_put(part *part, uint32_t number, const uint8_t *key)
 
 /* ---- the builder, and the cleaner */
 
-bool part_wants_page(part *part, uint32_t *page)
+uint32_t part_build(part *part, uint32_t most, uint32_t *stop, uint32_t *page)
 {
     lock_for_builder(part);
-    bool wants = nsf_index_wants_page(&part->index, page);
+    uint32_t refused = nsf_index_build(&part->index, most, stop, page);
     unlock(part);
-    return wants;
+    atomic_fetch_add(&part->built, most);
+    return refused;
 }
 
-uint32_t part_take_page(part *part, uint32_t page, const entry *entries, size_t count)
+uint32_t part_take_page(part *part, uint32_t page, const nsf_index_pair *pairs, size_t count)
 {
-    nsf_index_pair pairs[PAGE_ROWS];
-    for (size_t i = 0; i < count; i++)
-        pairs[i] = pair_of(entries[i].number, entries[i].key);
     lock_for_builder(part);
     uint32_t refused = nsf_index_take_page(&part->index, page, pairs, count);
     unlock(part);
     return refused;
 }
 
-uint32_t part_build(part *part, uint32_t most, stretch *reached)
-{
-    uint32_t stop = NSF_INDEX_MORE;
-    lock_for_builder(part);
-    uint32_t refused = nsf_index_build(&part->index, most, &stop);
-    unlock(part);
-    atomic_fetch_add(&part->built, most);
-    *reached = stop == NSF_INDEX_COMPLETE ? STRETCH_COMPLETE : stop == NSF_INDEX_WANTS_PAGE ? STRETCH_WANTS_PAGE : STRETCH_MORE;
-    return refused;
-}
-
 /* Takes marked entries out, among the next so many. The walk begins anew once it has come to the end. */
-uint32_t part_clean(part *part, place *from, uint32_t most, uint32_t *cleaned)
+uint32_t part_clean(part *part, nsf_index_cursor *cursor, uint32_t most, uint32_t *cleaned)
 {
-    nsf_index_pair above = pair_of(from->at.number, from->at.key), found;
-    uint32_t refused = 0;
-    bool did;
+    uint32_t refused = 0, found = NSF_INDEX_FOUND, did;
     lock_for_builder(part);
-    for (uint32_t i = 0; i < most && !refused; i++) {
-        uint32_t next = nsf_index_next_marked(&part->index, &above, from->is_above, most, &found);
-        from->is_above = next != 0;
-        if (next == 0)
-            break;
-        above = found;
-        if (next == NSF_INDEX_MARKED) {
-            refused = nsf_index_clean(&part->index, &found, &did);
-            *cleaned += did;
-        } else {
-            break;
-        }
+    for (uint32_t i = 0; i < most && !refused && found == NSF_INDEX_FOUND; i++) {
+        refused = nsf_index_next_marked(&part->index, cursor, most, &found);
+        if (refused || found != NSF_INDEX_FOUND)
+            continue;
+        refused = nsf_index_clean(&part->index, &cursor->pair, &did);
+        *cleaned += !refused && did;
     }
     unlock(part);
-    from->at = entry_of(&above);
+    if (found == NSF_INDEX_END)
+        *cursor = (nsf_index_cursor)NSF_INDEX_FIRST;
     return refused;
 }
 
-/* ---- reading */
+/* ---- reading: nothing is there where no index is open */
 
-walked part_next(part *part, place *from, entry *found)
+size_t part_page(part *part, nsf_index_cursor *cursor, nsf_index_pair *pairs, size_t room)
 {
-    nsf_index_pair above = pair_of(from->at.number, from->at.key), pair;
+    size_t count = 0;
     lock_for_change(part);
-    uint32_t next = nsf_index_next(&part->index, &above, from->is_above, &pair);
+    nsf_index_page(&part->index, cursor, pairs, room, &count);
     unlock(part);
-    if (next == NSF_INDEX_NONE)
-        return WALK_ENDS;
-    *found = entry_of(&pair);
-    from->at = *found;
-    from->is_above = true;
-    return next == NSF_INDEX_VISIBLE ? WALK_VISIBLE : WALK_MARKED;
+    return count;
+}
+
+range range_of(const uint8_t *low, const uint8_t *high)
+{
+    range range = {.cursor = NSF_INDEX_FIRST};
+    memcpy(range.low, low, KEY_BYTES);
+    memcpy(range.high, high, KEY_BYTES);
+    return range;
+}
+
+/* The first entry is found by its key, and those after it are read as they come; the lock is held. */
+static size_t read_range(part *part, range *range, nsf_index_pair *pairs, size_t room)
+{
+    size_t count = 0;
+    if (range->cursor.goes_on)
+        return nsf_index_page(&part->index, &range->cursor, pairs, room, &count) ? 0 : count;
+    if (nsf_index_find(&part->index, range->low, KEY_BYTES, &pairs[0]) || pairs[0].state == NSF_INDEX_NONE)
+        return 0;
+    range->cursor = nsf_index_after(&pairs[0]);
+    return nsf_index_page(&part->index, &range->cursor, pairs + 1, room - 1, &count) ? 0 : count + 1;
+}
+
+/* Of the next so many entries those that are visible. None need be among them, where the range has not ended. */
+size_t part_range(part *part, range *range, nsf_index_pair *pairs, size_t room)
+{
+    lock_for_change(part);
+    size_t read = read_range(part, range, pairs, room), count = 0;
+    unlock(part);
+    range->has_ended = read < room;
+    for (size_t i = 0; i < read; i++)
+        if (memcmp(pairs[i].key, range->high, KEY_BYTES) > 0)
+            range->has_ended = true;
+        else if (pairs[i].state == NSF_INDEX_VISIBLE)
+            pairs[count++] = pairs[i];
+    return count;
 }
 
 bool part_is_visible(part *part, uint32_t number, const uint8_t *key)
 {
-    nsf_index_pair pair = pair_of(number, key);
+    nsf_index_pair pair = nsf_index_pair_of(number, key, KEY_BYTES);
+    uint32_t state = NSF_INDEX_NONE;
     lock_for_change(part);
-    bool is_visible = nsf_index_get(&part->index, &pair) == NSF_INDEX_VISIBLE;
+    nsf_index_get(&part->index, &pair, &state);
     unlock(part);
-    return is_visible;
+    return state == NSF_INDEX_VISIBLE;
 }
 
-static nsf_index_stat stat_of(part *part)
+/* How far the index is built, as nsf_index_life says; 0 where none is open. */
+uint32_t part_life(part *part, nsf_index_pair *highest)
 {
-    nsf_index_stat stat = {.entries = 0};
+    uint32_t life = 0;
     lock_for_change(part);
-    if (part->is_open)
-        nsf_index_stat_of(&part->index, &stat);
+    nsf_index_life(&part->index, &life, highest);
     unlock(part);
-    return stat;
-}
-
-bool part_is_complete(part *part)
-{
-    return stat_of(part).is_complete;
-}
-
-uint64_t part_entries(part *part)
-{
-    return stat_of(part).entries;
+    return life;
 }
 
 /* ---- records */
@@ -260,13 +254,13 @@ uint64_t part_entries(part *part)
 /* Appends all records that wait; the lock is held. */
 static uint32_t take_records(part *part, bytes *to)
 {
-    nsf_index_stat stat;
-    nsf_index_stat_of(&part->index, &stat);
-    if (!stat.records)
-        return 0;
+    nsf_index_status status = NSF_INDEX_NO_STATUS;
     size_t used = 0;
-    bytes_reserve(to, stat.records * RECORD_ROOM);
-    uint32_t refused = nsf_index_records(&part->index, to->at + to->length, to->room - to->length, &used);
+    uint32_t refused = nsf_index_stat(&part->index, &status);
+    if (refused || !status.records)
+        return refused;
+    bytes_reserve(to, status.records * NSF_INDEX_RECORD_ROOM);
+    refused = nsf_index_records(&part->index, to->at + to->length, to->room - to->length, &used);
     to->length += used;
     return refused;
 }
@@ -279,70 +273,46 @@ uint32_t part_records(part *part, bytes *waiting)
     return refused;
 }
 
-uint32_t part_save_reach(part *part, bytes *waiting, bytes *piece)
+uint32_t part_save_life(part *part, bytes *waiting, bytes *piece)
 {
+    size_t used = 0;
+    bytes_reserve(piece, NSF_INDEX_RECORD_ROOM);
     lock_for_builder(part);
     uint32_t refused = take_records(part, waiting);
     if (!refused)
-        refused = nsf_index_save_life(&part->index);
-    if (!refused)
-        refused = take_records(part, piece);
+        refused = nsf_index_save_life(&part->index, piece->at + piece->length, NSF_INDEX_RECORD_ROOM, &used);
     unlock(part);
+    piece->length += used;
     return refused;
 }
 
-uint32_t part_save(part *part, bytes *waiting, place *from, uint32_t most, bytes *piece, bool *is_last)
+uint32_t part_save(part *part, bytes *waiting, nsf_index_cursor *cursor, uint32_t most, bytes *piece, bool *is_last)
 {
-    nsf_index_pair above = pair_of(from->at.number, from->at.key), next = above;
+    size_t room = (size_t)most * NSF_INDEX_RECORD_ROOM, used = 0;
+    uint32_t last = 0;
+    bytes_reserve(piece, room);
     lock_for_builder(part);
     uint32_t refused = take_records(part, waiting);
     if (!refused)
-        refused = nsf_index_save(&part->index, &above, from->is_above, most, &next, is_last);
-    if (!refused)
-        refused = take_records(part, piece);
+        refused = nsf_index_save(&part->index, cursor, piece->at + piece->length, room, &used, &last);
     unlock(part);
-    if (!refused)
-        *from = (place){.at = entry_of(&next), .is_above = true};
+    piece->length += used;
+    *is_last = last;
     return refused;
 }
 
-/* How far the index is built is read from the record that says so: a byte for its kind, and for a pair four bytes of its page, two of its
- * slot, and its key. */
-uint32_t part_reach(part *part, bytes *waiting, reach *found)
-{
-    bytes piece = {0};
-    uint32_t refused = part_save_reach(part, waiting, &piece);
-    memset(found, 0, sizeof *found);
-    if (!refused) {
-        const uint8_t *record = piece.at + 1;
-        found->is_complete = record[0] == COMPLETE_RECORD;
-        found->has_highest = record[0] == CHECKPOINT_RECORD;
-        if (found->has_highest) {
-            uint32_t page = (uint32_t)record[1] << 24 | (uint32_t)record[2] << 16 | (uint32_t)record[3] << 8 | record[4];
-            found->highest.number = page * PAGE_ROWS + ((uint32_t)record[5] << 8 | record[6]);
-            memcpy(found->highest.key, record + 7, KEY_BYTES);
-        }
-    }
-    bytes_free(&piece);
-    return refused;
-}
-
-/* Each record is a byte with its length, and so many bytes. */
-uint32_t part_redo(part *part, const uint8_t *records, size_t length, uint64_t *count)
-{
-    uint32_t refused = 0;
-    lock_for_change(part);
-    for (size_t at = 0; at < length && !refused; at += records[at] + 1u) {
-        refused = nsf_index_redo(&part->index, records + at + 1, records[at]);
-        *count += 1;
-    }
-    unlock(part);
-    return refused;
-}
-
-void part_reopen(part *part)
+uint32_t part_redo(part *part, const uint8_t *records, size_t length)
 {
     lock_for_change(part);
-    nsf_index_reopen(&part->index, part->pages);
+    uint32_t refused = nsf_index_redo_all(&part->index, records, length);
     unlock(part);
+    return refused;
+}
+
+uint32_t part_reopen(part *part)
+{
+    lock_for_change(part);
+    uint32_t refused = nsf_index_reopen(&part->index, part->pages);
+    unlock(part);
+    return refused;
 }

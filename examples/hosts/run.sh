@@ -31,7 +31,7 @@ kill_host() {
 case $1 in
 lmdb) kill_host lmdb -llmdb "$2" ;;
 sqlite) kill_host sqlite -lsqlite3 "$2" ;;
-duties) compile duties '' duties.c && "$work/duties" ;;
+duties) compile duties '' part.c duties.c && "$work/duties" ;;
 costs)
     compile costs-lmdb -llmdb part.c host.c check.c costs/costs.c costs/lmdb.c lmdb/*.c
     compile costs-sqlite -lsqlite3 part.c host.c check.c costs/costs.c costs/sqlite.c sqlite/*.c

@@ -39,8 +39,8 @@ bool store_last(connection *connection, uint32_t *number);
 void store_put(connection *connection, uint32_t number, const row *row);
 void store_delete(connection *connection, uint32_t number);
 
-/* The entries of a page's rows for an index, from a snapshot of what is committed: no lock is held. Their number is returned. */
-size_t store_read_page(connection *connection, int which, uint32_t page, entry *entries);
+/* The pairs of a page's rows for an index, from a snapshot of what is committed: no lock is held. Their number is returned. */
+size_t store_read_page(connection *connection, int which, uint32_t page, nsf_index_pair *pairs);
 
 /* Records, in a transaction that writes. The last two end before the key `high`; removing ends after so many, and returns how many. */
 typedef void (*visitor)(void *context, uint64_t place, const uint8_t *bytes, size_t length);

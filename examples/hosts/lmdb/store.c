@@ -191,19 +191,17 @@ bool store_last(connection *connection, uint32_t *number)
 }
 
 /* H5: a snapshot of what is committed. */
-size_t store_read_page(connection *connection, int which, uint32_t page, entry *entries)
+size_t store_read_page(connection *connection, int which, uint32_t page, nsf_index_pair *pairs)
 {
     uint8_t room[NUMBER_BYTES];
-    MDB_val key = row_key(room, page * PAGE_ROWS), value;
+    MDB_val key = row_key(room, page * NSF_INDEX_SLOTS), value;
     MDB_txn *snapshot;
     size_t count = 0;
     stop_if(mdb_txn_begin(connection->store->environment, NULL, MDB_RDONLY, &snapshot), "snapshot");
     MDB_cursor *cursor = cursor_of(snapshot, connection->store->rows);
     int failed = mdb_cursor_get(cursor, &key, &value, MDB_SET_RANGE);
-    while (!failed && number_of(&key) / PAGE_ROWS == page) {
-        entry *entry = &entries[count++];
-        entry->number = number_of(&key);
-        memcpy(entry->key, (uint8_t *)value.mv_data + which * KEY_BYTES, KEY_BYTES);
+    while (!failed && number_of(&key) / NSF_INDEX_SLOTS == page) {
+        pairs[count++] = nsf_index_pair_of(number_of(&key), (uint8_t *)value.mv_data + which * KEY_BYTES, KEY_BYTES);
         failed = mdb_cursor_get(cursor, &key, &value, MDB_NEXT);
     }
     mdb_cursor_close(cursor);

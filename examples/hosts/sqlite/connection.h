@@ -23,6 +23,9 @@ void add_range(connection *connection);
 /* Reads a key of at most KEY_BYTES bytes, filled up with this byte; false where the value is no such key. */
 bool read_key(sqlite3_value *value, uint8_t filling, uint8_t *key);
 
+/* Whether there is such an index, and it is complete. */
+bool is_complete(connection *connection, sqlite3_int64 which);
+
 /* Runs statements of SQL in the open transaction. Where one fails, the whole transaction is rolled back, and false is returned. */
 bool session_execute(session *session, const char *sql);
 #endif

@@ -14,6 +14,12 @@ bool read_key(sqlite3_value *value, uint8_t filling, uint8_t *key)
     return true;
 }
 
+bool is_complete(connection *connection, sqlite3_int64 which)
+{
+    nsf_index_pair highest;
+    return which >= 0 && which < INDEXES && part_life(&connection->session->host->parts[which], &highest) == NSF_INDEX_COMPLETE;
+}
+
 /* The keys of a row, or NULL where there is none. Keys of rows have KEY_BYTES bytes. */
 static const row *read_keys(sqlite3_value **values, row *room, bool *is_bad)
 {
@@ -80,16 +86,19 @@ static void find(sqlite3_context *context, int count, sqlite3_value **values)
     connection *connection = sqlite3_user_data(context);
     sqlite3_int64 which = count > 1 ? sqlite3_value_int64(values[1]) : 0;
     uint8_t key[KEY_BYTES];
-    entry found;
-    if (which < 0 || which >= INDEXES || !part_is_complete(&connection->session->host->parts[which])) {
+    nsf_index_pair found;
+    if (!is_complete(connection, which)) {
         sqlite3_result_error(context, "there is no such index, or it is not complete", -1);
         return;
     }
     if (!read_key(values[0], 0, key))
         return;
-    place from = before(key);
-    if (host_range(connection->session, (int)which, &from, key, &found, 1))
-        sqlite3_result_int64(context, found.number);
+    range range = range_of(key, key);
+    while (!range.has_ended)
+        if (host_range(connection->session, (int)which, &range, &found, 1)) {
+            sqlite3_result_int64(context, (sqlite3_int64)nsf_index_row_of(&found));
+            return;
+        }
 }
 
 static void add(connection *connection, const char *name, int count, void (*call)(sqlite3_context *, int, sqlite3_value **))

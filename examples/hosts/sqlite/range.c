@@ -18,9 +18,8 @@ typedef struct range_table {
 typedef struct range_cursor {
     sqlite3_vtab_cursor base;
     int which;
-    place from;
-    uint8_t high[KEY_BYTES];
-    entry entries[STRETCH];
+    range range;
+    nsf_index_pair pairs[STRETCH];
     size_t count, at;
     sqlite3_int64 row;
 } range_cursor;
@@ -89,8 +88,9 @@ static int close_cursor(sqlite3_vtab_cursor *cursor)
 static void read_stretch(range_cursor *cursor)
 {
     range_table *table = (range_table *)cursor->base.pVtab;
-    cursor->at = 0;
-    cursor->count = host_range(table->connection->session, cursor->which, &cursor->from, cursor->high, cursor->entries, STRETCH);
+    cursor->at = cursor->count = 0;
+    while (!cursor->count && !cursor->range.has_ended)
+        cursor->count = host_range(table->connection->session, cursor->which, &cursor->range, cursor->pairs, STRETCH);
 }
 
 static int filter(sqlite3_vtab_cursor *of, int plan, const char *name, int count, sqlite3_value **values)
@@ -98,15 +98,14 @@ static int filter(sqlite3_vtab_cursor *of, int plan, const char *name, int count
     (void)plan, (void)name;
     range_cursor *cursor = (range_cursor *)of;
     range_table *table = (range_table *)of->pVtab;
-    uint8_t low[KEY_BYTES];
+    uint8_t low[KEY_BYTES], high[KEY_BYTES];
     sqlite3_int64 which = count > 2 ? sqlite3_value_int64(values[2]) : 0;
-    if (which < 0 || which >= INDEXES || !part_is_complete(&table->connection->session->host->parts[which]) ||
-        !read_key(values[0], 0, low) || !read_key(values[1], 0xff, cursor->high)) {
+    if (!is_complete(table->connection, which) || !read_key(values[0], 0, low) || !read_key(values[1], 0xff, high)) {
         table->base.zErrMsg = sqlite3_mprintf("the index is not complete, or a bound is no key of at most 16 bytes");
         return SQLITE_ERROR;
     }
     cursor->which = (int)which;
-    cursor->from = before(low);
+    cursor->range = range_of(low, high);
     cursor->row = 1;
     read_stretch(cursor);
     return SQLITE_OK;
@@ -116,7 +115,7 @@ static int next(sqlite3_vtab_cursor *of)
 {
     range_cursor *cursor = (range_cursor *)of;
     cursor->row++;
-    if (++cursor->at == cursor->count && cursor->count == STRETCH)
+    if (++cursor->at == cursor->count)
         read_stretch(cursor);
     return SQLITE_OK;
 }
@@ -130,11 +129,11 @@ static int is_at_end(sqlite3_vtab_cursor *of)
 static int column(sqlite3_vtab_cursor *of, sqlite3_context *context, int column)
 {
     range_cursor *cursor = (range_cursor *)of;
-    const entry *entry = &cursor->entries[cursor->at];
+    const nsf_index_pair *pair = &cursor->pairs[cursor->at];
     if (column == KEY_COLUMN)
-        sqlite3_result_blob(context, entry->key, KEY_BYTES, SQLITE_TRANSIENT);
+        sqlite3_result_blob(context, pair->key, KEY_BYTES, SQLITE_TRANSIENT);
     else if (column == NUMBER_COLUMN)
-        sqlite3_result_int64(context, entry->number);
+        sqlite3_result_int64(context, (sqlite3_int64)nsf_index_row_of(pair));
     return SQLITE_OK;
 }
 

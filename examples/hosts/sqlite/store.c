@@ -263,15 +263,16 @@ void store_delete(connection *connection, uint32_t number)
 }
 
 /* H5: a statement of its own sees what is committed, at one moment. */
-size_t store_read_page(connection *connection, int which, uint32_t page, entry *entries)
+size_t store_read_page(connection *connection, int which, uint32_t page, nsf_index_pair *pairs)
 {
     sqlite3_stmt *statement = take(connection, PAGE + (enum statement)which);
     size_t count = 0;
-    sqlite3_bind_int64(statement, 1, (sqlite3_int64)page * PAGE_ROWS);
-    sqlite3_bind_int64(statement, 2, ((sqlite3_int64)page + 1) * PAGE_ROWS);
+    sqlite3_bind_int64(statement, 1, (sqlite3_int64)page * NSF_INDEX_SLOTS);
+    sqlite3_bind_int64(statement, 2, ((sqlite3_int64)page + 1) * NSF_INDEX_SLOTS);
     while (step(connection, statement, "read page")) {
-        entries[count].number = (uint32_t)sqlite3_column_int64(statement, 0);
-        copy_blob(entries[count++].key, KEY_BYTES, statement, 1);
+        uint8_t key[KEY_BYTES];
+        copy_blob(key, KEY_BYTES, statement, 1);
+        pairs[count++] = nsf_index_pair_of((uint64_t)sqlite3_column_int64(statement, 0), key, KEY_BYTES);
     }
     sqlite3_reset(statement);
     return count;
