@@ -10,6 +10,8 @@
 enum {
     PIECE_ENTRIES = 512, /* entries of a checkpoint that are saved at a time */
     SWEPT = 64,          /* old records that are removed at a time */
+    FEW_STEPS = 16,       /* the builder's stretch while transactions commit */
+    MANY_STEPS = 256,     /* the builder's stretch otherwise */
     UNLOGGED_MOST = 2048, /* steps of the builder that may wait for a commit */
     RESTS = 3            /* while transactions commit, the builder rests so many times as long as it works */
 };
@@ -247,13 +249,6 @@ void host_drop_index(session *session, int which)
     sweep(session, which);
 }
 
-static void note_longest(host *host, uint64_t began)
-{
-    uint64_t held = nanoseconds() - began;
-    if (held > atomic_load(&host->longest))
-        atomic_store(&host->longest, held);
-}
-
 /* The next commit logs what the builder did. Where there was none for long, an empty transaction does. */
 static void log_build(session *session, int which, bool is_complete)
 {
@@ -264,7 +259,7 @@ static void log_build(session *session, int which, bool is_complete)
     session_begin(session);
     uint64_t began = nanoseconds();
     commit_or_stop(session, "build");
-    note_longest(host, began);
+    keep_greatest(&host->longest, nanoseconds() - began);
 }
 
 static void rest(uint64_t worked)
@@ -281,20 +276,22 @@ static void hand_over(session *session, int which, uint32_t page)
     stop_if(part_take_page(&session->host->parts[which], page, pairs, count), "take page");
 }
 
-bool host_build(session *session, int which, uint32_t most)
+/* While transactions commit, stretches are short, and the builder rests after each. */
+bool host_build(session *session, int which)
 {
     host *host = session->host;
     uint32_t stop = NSF_INDEX_MORE, page = 0;
     unsigned long commits = atomic_load(&host->commits);
+    bool is_busy = atomic_exchange(&host->seen, commits) != commits;
     uint64_t began = nanoseconds();
-    stop_if(part_build(&host->parts[which], most, &stop, &page), "build");
+    stop_if(part_build(&host->parts[which], is_busy ? FEW_STEPS : MANY_STEPS, &stop, &page), "build");
     uint64_t worked = nanoseconds() - began;
     if (stop == NSF_INDEX_WANTS_PAGE) {
         hand_over(session, which, page);
         return true;
     }
     log_build(session, which, stop == NSF_INDEX_IS_COMPLETE);
-    if (commits != atomic_load(&host->commits))
+    if (is_busy)
         rest(worked);
     return stop != NSF_INDEX_IS_COMPLETE;
 }
@@ -306,7 +303,7 @@ uint32_t host_clean(session *session, int which, nsf_index_cursor *cursor, uint3
     pthread_mutex_lock(&session->host->writing);
     uint64_t began = nanoseconds();
     stop_if(part_clean(&session->host->parts[which], cursor, most, &cleaned), "clean");
-    note_longest(session->host, began);
+    keep_greatest(&session->host->longest, nanoseconds() - began);
     pthread_mutex_unlock(&session->host->writing);
     return cleaned;
 }

@@ -42,6 +42,7 @@ typedef struct host {
     change *changes;             /* of the open transaction; under `writing` */
     size_t count, room;
     store *store;
+    atomic_ulong seen;           /* how many commits there were at the builder's last stretch */
     atomic_ulong commits, redone; /* redone: bytes of records */
     atomic_ulong longest; /* the longest time that `writing` was held for the builder or the cleaner, in nanoseconds */
 } host;
@@ -69,10 +70,10 @@ void session_roll_back(session *session);
 uint32_t host_prepare(host *host, uint32_t number, const row *old, const row *next);
 void host_put(host *host, uint32_t number, const row *old, const row *next);
 
-/* Indexes. A stretch of a build reads a page, or makes so many steps; the build is at its end where it returns false. */
+/* Indexes. A stretch of a build reads a page, or makes some steps; the build is at its end where it returns false. */
 bool host_create_index(session *session, int which);
 void host_drop_index(session *session, int which);
-bool host_build(session *session, int which, uint32_t most);
+bool host_build(session *session, int which);
 uint32_t host_clean(session *session, int which, nsf_index_cursor *cursor, uint32_t most);
 void host_checkpoint(session *session, int which);
 

@@ -16,7 +16,7 @@
 #include <sys/wait.h>
 #include <unistd.h>
 
-enum { WRITERS = 4, CHANGES_MOST = 4, STEPS = 64, CLEANED = 64, LOG_MOST = 2000, TIDY_EACH = 16, FIRST_MS = 100, MORE_MS = 500, OPENING_MOST_MS = 20000, KEYS = 1000000 };
+enum { WRITERS = 4, CHANGES_MOST = 4, CLEANED = 64, LOG_MOST = 2000, TIDY_EACH = 16, FIRST_MS = 100, MORE_MS = 500, OPENING_MOST_MS = 20000, KEYS = 1000000 };
 #define LAST_NS 1000000000
 
 /* What all processes together did: it outlives them. */
@@ -134,7 +134,7 @@ static void build_once(session *session, nsf_index_cursor *cleaned)
     atomic_store(&totals_of_all->is_building, true);
     bool goes_on = true;
     for (int stretch = 1; goes_on && !atomic_load(&has_ended); stretch++) {
-        goes_on = host_build(session, 1, STEPS);
+        goes_on = host_build(session, 1);
         if (stretch % TIDY_EACH == 0)
             tidy(session, cleaned);
     }
@@ -194,7 +194,7 @@ static void begin(const char *folder)
     }
     if (!session_commit(session) || !host_create_index(session, 0))
         stop("begin", "it failed");
-    while (host_build(session, 0, STEPS)) {
+    while (host_build(session, 0)) {
     }
     check_both(session, "at the beginning");
     session_close(session);
@@ -262,8 +262,8 @@ int main(int count, char **words)
         run_process(words[1], &random, UINT64_MAX);
     run_process(words[1], &random, LAST_NS);
     totals *all = totals_of_all;
-    printf("%d kills, %lu of them while an index was built; %lu commits, %lu rolled back, %lu builds to the end, %lu checkpoints, "
+    printf("seed %s: %d kills, %lu of them while an index was built; %lu commits, %lu rolled back, %lu builds to the end, %lu checkpoints, "
            "%lu entries cleaned, %lu bytes of records redone; %lu checks of an index, each exact\n",
-           kills, all->kills_in_build, all->commits, all->rolled_back, all->builds, all->checkpoints, all->cleaned, all->redone, all->checks);
+           count > 4 ? words[4] : "0", kills, all->kills_in_build, all->commits, all->rolled_back, all->builds, all->checkpoints, all->cleaned, all->redone, all->checks);
     return 0;
 }

@@ -18,6 +18,12 @@ uint64_t nanoseconds(void)
     return (uint64_t)now.tv_sec * 1000000000 + (uint64_t)now.tv_nsec;
 }
 
+void keep_greatest(atomic_ulong *greatest, uint64_t found)
+{
+    if (found > atomic_load(greatest))
+        atomic_store(greatest, found);
+}
+
 /* ---- bytes */
 
 void bytes_reserve(bytes *bytes, size_t more)
@@ -54,20 +60,36 @@ static void lock_for_change(part *part)
     pthread_mutex_lock(&part->lock);
     atomic_fetch_sub(&part->changing, 1);
     uint64_t waited = nanoseconds() - began;
-    if (waited > atomic_load(&part->longest))
-        atomic_store(&part->longest, waited);
-}
-
-static void lock_for_builder(part *part)
-{
-    while (atomic_load(&part->changing))
-        sched_yield();
-    pthread_mutex_lock(&part->lock);
+    atomic_fetch_add(&part->waited, waited);
+    keep_greatest(&part->longest, waited);
 }
 
 static void unlock(part *part)
 {
     pthread_mutex_unlock(&part->lock);
+}
+
+static uint64_t processor_time(void)
+{
+    struct timespec now;
+    clock_gettime(CLOCK_THREAD_CPUTIME_ID, &now);
+    return (uint64_t)now.tv_sec * 1000000000 + (uint64_t)now.tv_nsec;
+}
+
+/* Returns when the hold began. */
+static uint64_t lock_for_builder(part *part)
+{
+    while (atomic_load(&part->changing))
+        sched_yield();
+    pthread_mutex_lock(&part->lock);
+    return processor_time();
+}
+
+static void unlock_of_builder(part *part, uint64_t began)
+{
+    uint64_t held = processor_time() - began;
+    pthread_mutex_unlock(&part->lock);
+    keep_greatest(&part->held, held);
 }
 
 /* ---- beginning and end */
@@ -150,18 +172,18 @@ uint32_t part_put(part *part, uint32_t number, const uint8_t *key)
 
 uint32_t part_build(part *part, uint32_t most, uint32_t *stop, uint32_t *page)
 {
-    lock_for_builder(part);
+    uint64_t began = lock_for_builder(part);
     uint32_t refused = nsf_index_build(&part->index, most, stop, page);
-    unlock(part);
+    unlock_of_builder(part, began);
     atomic_fetch_add(&part->built, most);
     return refused;
 }
 
 uint32_t part_take_page(part *part, uint32_t page, const nsf_index_pair *pairs, size_t count)
 {
-    lock_for_builder(part);
+    uint64_t began = lock_for_builder(part);
     uint32_t refused = nsf_index_take_page(&part->index, page, pairs, count);
-    unlock(part);
+    unlock_of_builder(part, began);
     return refused;
 }
 
@@ -169,7 +191,7 @@ uint32_t part_take_page(part *part, uint32_t page, const nsf_index_pair *pairs, 
 uint32_t part_clean(part *part, nsf_index_cursor *cursor, uint32_t most, uint32_t *cleaned)
 {
     uint32_t refused = 0, found = NSF_INDEX_FOUND, did;
-    lock_for_builder(part);
+    uint64_t began = lock_for_builder(part);
     for (uint32_t i = 0; i < most && !refused && found == NSF_INDEX_FOUND; i++) {
         refused = nsf_index_next_marked(&part->index, cursor, most, &found);
         if (refused || found != NSF_INDEX_FOUND)
@@ -177,7 +199,7 @@ uint32_t part_clean(part *part, nsf_index_cursor *cursor, uint32_t most, uint32_
         refused = nsf_index_clean(&part->index, &cursor->pair, &did);
         *cleaned += !refused && did;
     }
-    unlock(part);
+    unlock_of_builder(part, began);
     if (found == NSF_INDEX_END)
         *cursor = (nsf_index_cursor)NSF_INDEX_FIRST;
     return refused;
@@ -277,11 +299,11 @@ uint32_t part_save_life(part *part, bytes *waiting, bytes *piece)
 {
     size_t used = 0;
     bytes_reserve(piece, NSF_INDEX_RECORD_ROOM);
-    lock_for_builder(part);
+    uint64_t began = lock_for_builder(part);
     uint32_t refused = take_records(part, waiting);
     if (!refused)
         refused = nsf_index_save_life(&part->index, piece->at + piece->length, NSF_INDEX_RECORD_ROOM, &used);
-    unlock(part);
+    unlock_of_builder(part, began);
     piece->length += used;
     return refused;
 }
@@ -291,11 +313,11 @@ uint32_t part_save(part *part, bytes *waiting, nsf_index_cursor *cursor, uint32_
     size_t room = (size_t)most * NSF_INDEX_RECORD_ROOM, used = 0;
     uint32_t last = 0;
     bytes_reserve(piece, room);
-    lock_for_builder(part);
+    uint64_t began = lock_for_builder(part);
     uint32_t refused = take_records(part, waiting);
     if (!refused)
         refused = nsf_index_save(&part->index, cursor, piece->at + piece->length, room, &used, &last);
-    unlock(part);
+    unlock_of_builder(part, began);
     piece->length += used;
     *is_last = last;
     return refused;

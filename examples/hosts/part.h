@@ -26,7 +26,9 @@ typedef struct part {
     bool is_open;
     uint32_t pages;       /* the pages that the builder reads: nsf_index_create was given their number */
     atomic_uint changing; /* how many changes wait for the lock */
-    atomic_ulong longest; /* the longest time that a change waited for the lock, in nanoseconds */
+    atomic_ulong waited;  /* how long changes waited for the lock, in nanoseconds */
+    atomic_ulong longest; /* the longest of these waits */
+    atomic_ulong held;    /* the longest time of a processor that the builder or the cleaner held it, in nanoseconds */
     atomic_ulong built;   /* how many steps the builder made */
 } part;
 
@@ -72,4 +74,5 @@ uint32_t part_reopen(part *part);
 void bytes_reserve(bytes *bytes, size_t more);
 void bytes_free(bytes *bytes);
 uint64_t nanoseconds(void);
+void keep_greatest(atomic_ulong *greatest, uint64_t found);
 #endif

@@ -1,24 +1,12 @@
 /* Rows and records in LMDB: a database of rows by number, and one of records. */
-#include "../host.h"
+#include "connection.h"
 
-#include <lmdb.h>
 #include <stdlib.h>
 #include <string.h>
 #include <sys/stat.h>
 
-enum { NUMBER_BYTES = 4, RECORD_KEY_BYTES = 17, READERS = 64, DATABASES = 2 };
+enum { RECORD_KEY_BYTES = 17, READERS = 64, DATABASES = 4 };
 #define MAP_BYTES ((size_t)8 << 30)
-
-struct store {
-    MDB_env *environment;
-    MDB_dbi rows, records;
-};
-
-struct connection {
-    store *store;
-    session *session;
-    MDB_txn *writing; /* the transaction that writes, if one is open */
-};
 
 static void stop_if(int failed, const char *what)
 {
@@ -42,7 +30,7 @@ static uint64_t read_number(const uint8_t *from, int bytes)
     return number;
 }
 
-static MDB_val row_key(uint8_t *room, uint32_t number)
+MDB_val row_key(uint8_t *room, uint32_t number)
 {
     write_number(room, number, NUMBER_BYTES);
     return (MDB_val){NUMBER_BYTES, room};
