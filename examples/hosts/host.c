@@ -10,6 +10,7 @@
 enum {
     PIECE_ENTRIES = 512, /* entries of a checkpoint that are saved at a time */
     SWEPT = 64,          /* old records that are removed at a time */
+    MOVED = 256,          /* changes of a transaction after which records are moved out of the indexes */
     FEW_STEPS = 16,       /* the builder's stretch while transactions commit */
     MANY_STEPS = 256,     /* the builder's stretch otherwise */
     UNLOGGED_MOST = 2048, /* steps of the builder that may wait for a commit */
@@ -73,10 +74,21 @@ static void take_back(host *host, const change *change)
         stop_if(part_put(part, change->number, change->old), "take back");
 }
 
+/* Few records wait in the indexes at a time: there is room for these, so that no change is refused for want of memory for its records. */
+static void move_records(host *host)
+{
+    for (int which = 0; which < INDEXES; which++)
+        if (host->parts[which].is_open)
+            stop_if(part_records(&host->parts[which], &host->waiting[which]), "records");
+}
+
 static void take_back_to(host *host, size_t count)
 {
-    while (host->count > count)
+    while (host->count > count) {
         take_back(host, &host->changes[--host->count]);
+        if (host->count % MOVED == 0)
+            move_records(host);
+    }
 }
 
 static bool is_touched(host *host, int which, const row *old, const row *next)
@@ -90,6 +102,8 @@ uint32_t host_prepare(host *host, uint32_t number, const row *old, const row *ne
     size_t before = host->count;
     if (!reserve_changes(host))
         return NSF_INDEX_NO_MEMORY;
+    if (host->count % MOVED == 0)
+        move_records(host);
     for (int which = 0; which < INDEXES; which++) {
         if (!is_touched(host, which, old, next))
             continue;
@@ -130,12 +144,11 @@ static void end_writing(session *session)
 static void log_records(session *session)
 {
     host *host = session->host;
+    for (int which = 0; which < INDEXES; which++)
+        atomic_store(&host->logged[which], atomic_load(&host->parts[which].built));
+    move_records(host);
     for (int which = 0; which < INDEXES; which++) {
         bytes *waiting = &host->waiting[which];
-        if (!host->parts[which].is_open)
-            continue;
-        atomic_store(&host->logged[which], atomic_load(&host->parts[which].built));
-        stop_if(part_records(&host->parts[which], waiting), "records");
         if (waiting->length)
             store_write(session->connection, key_of(which, host->streams[which].log, host->next[which]++), waiting->at, waiting->length);
     }

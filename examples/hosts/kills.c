@@ -197,6 +197,8 @@ static void begin(const char *folder)
     while (host_build(session, 0)) {
     }
     check_both(session, "at the beginning");
+    store_try(session);
+    check_both(session, "after the trial");
     session_close(session);
     host_close(host);
 }

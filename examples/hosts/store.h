@@ -51,6 +51,9 @@ uint32_t store_remove(connection *connection, record_key low, record_key high, u
 /* Checks a complete index further, by means of the store's own, in a transaction that writes. */
 bool store_check(connection *connection, int which);
 
+/* Tries what only this store has, once the first index is complete. */
+void store_try(struct session *session);
+
 /* Says why, and ends the process. */
 _Noreturn void stop(const char *what, const char *why);
 #endif

@@ -270,9 +270,14 @@ uint32_t store_remove(connection *connection, record_key low, record_key high, u
     return removed;
 }
 
-/* LMDB has no queries of its own. */
+/* LMDB has no queries and no statements of its own. */
 bool store_check(connection *connection, int which)
 {
     (void)connection, (void)which;
     return true;
+}
+
+void store_try(session *session)
+{
+    (void)session;
 }

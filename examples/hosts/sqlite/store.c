@@ -1,5 +1,5 @@
 /* Rows and records in SQLite: a table of rows, and one of records, in one file with a write-ahead log. Triggers tell the indexes of each
- * change, so that any statement of SQL may change rows. */
+ * change, so that any statement of SQL may change rows. (A row that comes has no pair before, so that it may be prepared once it is there.) */
 #include "connection.h"
 
 #include <stdio.h>
@@ -113,7 +113,7 @@ void connection_close(connection *connection)
     free(connection);
 }
 
-/* ---- statements */
+/* ---- running statements */
 
 static sqlite3_stmt *take(connection *connection, enum statement which)
 {
