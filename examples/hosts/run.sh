@@ -4,18 +4,18 @@
 #     run.sh lmdb [KILLS]      a host over LMDB, killed so often
 #     run.sh sqlite [KILLS]    a host over SQLite
 #     run.sh duties            each duty kept, and broken
-#     run.sh costs             what indexes and their builds cost (some minutes)
+#     run.sh costs             what indexes and their builds cost (two minutes)
 #
 # NSF_INDEX_LIBRARY names a libnsf_index.a of scripts/library --index; its header lies in include beside lib. CC and CFLAGS are passed on,
 # as -fsanitize=address. ROWS says how many rows there are, SEED which moments and rows are drawn, SECONDS_EACH how long each number of the
 # costs is counted.
 set -e
-here=$(cd "$(dirname "$0")" && pwd)
 usage() {
     sed -n '2,/^set/s/^# \{0,1\}//p' "$0" >&2
     exit 2
 }
 [ -f "$NSF_INDEX_LIBRARY" ] || usage
+library=$(realpath "$NSF_INDEX_LIBRARY")
 work=$(mktemp -d)
 trap 'rm -rf "$work"' EXIT
 trap 'exit 130' INT TERM HUP
@@ -25,8 +25,8 @@ compile() {
     program=$1 libraries=$2
     shift 2
     # shellcheck disable=SC2086
-    (cd "$here" && ${CC:-cc} -std=c11 -O2 -Wall -Wextra -Werror -pedantic $CFLAGS -I. -I"${NSF_INDEX_LIBRARY%/lib/*}/include" "$@" \
-        "$NSF_INDEX_LIBRARY" $libraries -pthread -o "$work/$program")
+    ${CC:-cc} -std=c11 -O2 -Wall -Wextra -Werror -pedantic $CFLAGS -I. -I"${library%/lib/*}/include" "$@" "$library" $libraries -pthread \
+        -o "$work/$program"
 }
 
 kill_host() {
@@ -34,15 +34,17 @@ kill_host() {
     "$work/kills" "$work/folder" "${ROWS:-8000}" "${3:-20}" "${SEED:-$$}"
 }
 
+cost_host() {
+    compile costs "$2" part.c host.c costs/costs.c "costs/$1.c" "$1"/*.c
+    "$work/costs" "$work/folder" "${ROWS:-200000}" "${SECONDS_EACH:-3}"
+    rm -rf "$work"/folder*
+}
+
+cd "$(dirname "$0")"
 case $1 in
 lmdb) kill_host lmdb -llmdb "$2" ;;
 sqlite) kill_host sqlite -lsqlite3 "$2" ;;
 duties) compile duties '' part.c duties.c && "$work/duties" ;;
-costs)
-    compile costs-lmdb -llmdb part.c host.c check.c costs/costs.c costs/lmdb.c lmdb/*.c
-    compile costs-sqlite -lsqlite3 part.c host.c check.c costs/costs.c costs/sqlite.c sqlite/*.c
-    "$work/costs-lmdb" "$work/lmdb" "${ROWS:-200000}" "${SECONDS_EACH:-3}"
-    "$work/costs-sqlite" "$work/sqlite" "${ROWS:-200000}" "${SECONDS_EACH:-3}"
-    ;;
+costs) cost_host lmdb -llmdb && cost_host sqlite -lsqlite3 ;;
 *) usage ;;
 esac
