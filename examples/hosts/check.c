@@ -52,11 +52,11 @@ static void check_rows(session *session, int which, checked *checked)
 checked check_index(session *session, int which)
 {
     checked checked = {0};
-    session_begin(session);
+    host_begin(session);
     check_rows(session, which, &checked);
     check_entries(session, which, &checked);
     checked.is_refused = checked.is_complete && !store_check(session->connection, which);
-    session_commit(session);
+    host_commit(session);
     return checked;
 }
 

@@ -127,10 +127,15 @@ void host_put(host *host, uint32_t number, const row *old, const row *next)
 
 /* ---- transactions */
 
-void session_begin(session *session)
+void host_enter(session *session)
 {
     pthread_mutex_lock(&session->host->writing);
     session->is_writing = true;
+}
+
+void host_begin(session *session)
+{
+    host_enter(session);
     store_begin(session->connection);
 }
 
@@ -178,18 +183,17 @@ static void tell_rollback(session *session)
     end_writing(session);
 }
 
-bool session_commit(session *session)
+bool host_commit(session *session)
 {
     if (!commit_records(session)) {
         tell_rollback(session);
         return false;
     }
-    atomic_fetch_add(&session->host->commits, 1);
     end_writing(session);
     return true;
 }
 
-void session_roll_back(session *session)
+void host_roll_back(session *session)
 {
     store_roll_back(session->connection);
     tell_rollback(session);
@@ -206,7 +210,7 @@ static void write_streams(session *session, int which)
 
 static void commit_or_stop(session *session, const char *what)
 {
-    if (!session_commit(session))
+    if (!host_commit(session))
         stop(what, "the commit failed");
 }
 
@@ -216,7 +220,7 @@ bool host_create_index(session *session, int which)
     host *host = session->host;
     streams *streams = &host->streams[which];
     uint32_t last = 0;
-    session_begin(session);
+    host_begin(session);
     store_last(session->connection, &last);
     uint32_t refused = part_open(&host->parts[which], ENTRIES_MOST, last / NSF_INDEX_SLOTS + 1);
     if (!refused) {
@@ -243,7 +247,7 @@ static void sweep(session *session, int which)
     };
     for (size_t i = 0; i < sizeof ranges / sizeof *ranges; i++)
         for (uint32_t removed = SWEPT; removed == SWEPT;) {
-            session_begin(session);
+            host_begin(session);
             removed = store_remove(session->connection, ranges[i][0], ranges[i][1], SWEPT);
             commit_or_stop(session, "sweep");
         }
@@ -252,7 +256,7 @@ static void sweep(session *session, int which)
 void host_drop_index(session *session, int which)
 {
     host *host = session->host;
-    session_begin(session);
+    host_begin(session);
     part_close(&host->parts[which]);
     host->waiting[which].length = 0;
     host->streams[which].log = ++host->streams[which].newest;
@@ -269,7 +273,7 @@ static void log_build(session *session, int which, bool is_complete)
     unsigned long unlogged = atomic_load(&host->parts[which].built) - atomic_load(&host->logged[which]);
     if (unlogged < UNLOGGED_MOST && !is_complete)
         return;
-    session_begin(session);
+    host_begin(session);
     uint64_t began = nanoseconds();
     commit_or_stop(session, "build");
     keep_greatest(&host->longest, nanoseconds() - began);
@@ -339,18 +343,18 @@ void host_checkpoint(session *session, int which)
     bytes piece = {0}, *waiting = &host->waiting[which];
     nsf_index_cursor cursor = NSF_INDEX_FIRST;
     uint64_t pieces = 0;
-    session_begin(session);
+    host_begin(session);
     uint64_t stream = ++streams->newest, begun = host->next[which];
     stop_if(part_save_life(part, waiting, &piece), "save");
     write_piece(session, which, stream, &pieces, &piece);
     commit_or_stop(session, "save");
     for (bool is_last = false; !is_last;) {
-        session_begin(session);
+        host_begin(session);
         stop_if(part_save(part, waiting, &cursor, PIECE_ENTRIES, &piece, &is_last), "save");
         write_piece(session, which, stream, &pieces, &piece);
         commit_or_stop(session, "save");
     }
-    session_begin(session);
+    host_begin(session);
     streams->saved = stream;
     streams->from = begun;
     write_streams(session, which);
@@ -386,7 +390,7 @@ static void load(session *session, int which)
     host *host = session->host;
     streams *streams = &host->streams[which];
     loading loading = {.host = host, .which = which};
-    session_begin(session);
+    host_begin(session);
     store_each(session->connection, key_of(which, 0, 0), key_of(which, 1, 0), load_streams, &loading);
     if (streams->pages) {
         stop_if(part_empty(&host->parts[which], ENTRIES_MOST, streams->pages), "open");

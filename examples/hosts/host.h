@@ -1,8 +1,10 @@
-/* A host of two indexes, over a store that has one writing transaction at a time: it keeps the duties that nsf_index.h names.
+/* A host of two indexes, over a store of rows: it keeps the duties that nsf_index.h names.
  *
  *  H1  part.c has a lock for each index, held for one call.
- *  H2  A transaction holds `writing` from its beginning to the end of its commit, or of its rollback.
- *  H3  host_prepare is called before a row changes, and host_put after it (session_put, or the triggers of SQLite).
+ *  H2  A transaction holds `writing` from its beginning to the end of its commit, or of its rollback (one_writer.c). In RocksDB it holds
+ *      locks of its rows instead, and enters `writing` to commit: the indexes are told of its changes only then.
+ *  H3  host_prepare is called before a row changes, and host_put after it: by session_put, by the triggers of SQLite, and for RocksDB
+ *      before the commit, which is what changes the rows there.
  *  H4  host.c keeps the changes of the open transaction, and takes them back in the reverse order.
  *  H5  The builder reads its pages from snapshots of the store, with no lock.
  *  H6  host_create_index holds `writing`, and so no change is under way; it names the pages of all rows.
@@ -59,12 +61,19 @@ void host_close(host *host);
 session *session_open(host *host);
 void session_close(session *session);
 
-/* A transaction. A refused change has changed nothing, and the transaction may go on. A commit that returns false has rolled back. */
+/* A transaction of rows. A refused change has changed nothing, and the transaction may go on. A commit that returns false has rolled back.
+ * These are in one_writer.c, and where a store has many transactions at a time in its folder. */
 void session_begin(session *session);
 uint32_t session_put(session *session, uint32_t number, const row *row);
 uint32_t session_delete(session *session, uint32_t number);
 bool session_commit(session *session);
 void session_roll_back(session *session);
+
+/* A transaction that tells indexes: one at a time. Entering makes the transaction that is open such a one. */
+void host_enter(session *session);
+void host_begin(session *session);
+bool host_commit(session *session);
+void host_roll_back(session *session);
 
 /* Before and after a row changes: what it is, or NULL, and what it is to be, or NULL. */
 uint32_t host_prepare(host *host, uint32_t number, const row *old, const row *next);

@@ -53,16 +53,11 @@ static void fill(row *row, uint64_t *random)
     }
 }
 
-static void stop_if(uint32_t refused, const char *what)
-{
-    if (refused)
-        stop(what, "refused");
-}
-
 /* ---- the writers */
 
-/* A third of the rows that are there go, and of the others one key stays now and then. */
-static void change_one(session *session, uint64_t *random)
+/* A third of the rows that are there go, and of the others one key stays now and then. A refusal (a lock that another transaction holds)
+ * is returned. */
+static uint32_t change_one(session *session, uint64_t *random)
 {
     uint32_t number = 1 + (uint32_t)draw(random, rows_at_first + rows_at_first / 4);
     row old, next;
@@ -71,9 +66,8 @@ static void change_one(session *session, uint64_t *random)
     if (had && draw(random, 3) == 0)
         memcpy(next.keys[0], old.keys[0], KEY_BYTES);
     if (had && draw(random, 3) == 0)
-        stop_if(session_delete(session, number), "delete");
-    else
-        stop_if(session_put(session, number, &next), "put");
+        return session_delete(session, number);
+    return session_put(session, number, &next);
 }
 
 static void *write_rows(void *of)
@@ -81,10 +75,11 @@ static void *write_rows(void *of)
     worker *worker = of;
     session *session = session_open(worker->host);
     while (!atomic_load(&has_ended)) {
+        uint32_t refused = 0;
         session_begin(session);
-        for (uint64_t count = 1 + draw(&worker->random, CHANGES_MOST); count; count--)
-            change_one(session, &worker->random);
-        if (draw(&worker->random, 10) == 0) {
+        for (uint64_t count = 1 + draw(&worker->random, CHANGES_MOST); count && !refused; count--)
+            refused = change_one(session, &worker->random);
+        if (refused || draw(&worker->random, 10) == 0) {
             session_roll_back(session);
             atomic_fetch_add(&totals_of_all->rolled_back, 1);
         } else if (session_commit(session)) {

@@ -3,6 +3,7 @@
 #
 #     run.sh lmdb [KILLS]      a host over LMDB, killed so often
 #     run.sh sqlite [KILLS]    a host over SQLite
+#     run.sh rocksdb [KILLS]   a host over RocksDB, whose transactions go on side by side
 #     run.sh duties            each duty kept, and broken
 #     run.sh costs             what indexes and their builds cost (two minutes)
 #
@@ -30,21 +31,25 @@ compile() {
 }
 
 kill_host() {
-    compile kills "$2" part.c host.c check.c kills.c "$1"/*.c
+    compile kills "$2" part.c host.c $4 check.c kills.c "$1"/*.c
     "$work/kills" "$work/folder" "${ROWS:-8000}" "${3:-20}" "${SEED:-$$}"
 }
 
 cost_host() {
-    compile costs "$2" part.c host.c costs/costs.c "costs/$1.c" "$1"/*.c
+    compile costs "$2" part.c host.c one_writer.c costs/costs.c "costs/$1.c" "$1"/*.c
     "$work/costs" "$work/folder" "${ROWS:-200000}" "${SECONDS_EACH:-3}"
     rm -rf "$work"/folder*
 }
 
 cd "$(dirname "$0")"
 case $1 in
-lmdb) kill_host lmdb -llmdb "$2" ;;
-sqlite) kill_host sqlite -lsqlite3 "$2" ;;
+lmdb) kill_host lmdb -llmdb "$2" one_writer.c ;;
+sqlite) kill_host sqlite -lsqlite3 "$2" one_writer.c ;;
+rocksdb) kill_host rocksdb -lrocksdb "$2" '' ;;
 duties) compile duties '' part.c duties.c && "$work/duties" ;;
-costs) cost_host lmdb -llmdb && cost_host sqlite -lsqlite3 ;;
+costs)
+    cost_host lmdb -llmdb
+    cost_host sqlite -lsqlite3
+    ;;
 *) usage ;;
 esac

@@ -1,4 +1,4 @@
-/* What a store does for a host: rows by number, and records of the indexes in the same transactions. lmdb/store.c and sqlite/store.c are two
+/* What a store does for a host: rows by number, and records of the indexes in the same transactions. lmdb, sqlite and rocksdb have
  * such. Where a store fails it ends the process, but for a commit. */
 #ifndef STORE_H
 #define STORE_H
@@ -27,12 +27,12 @@ void store_close(store *store);
 connection *connection_open(store *store, struct session *of);
 void connection_close(connection *connection);
 
-/* A transaction that writes: one at a time, which the host sees to. A commit that fails leaves all as it was before. */
+/* A transaction that writes. A commit that fails leaves all as it was before. */
 void store_begin(connection *connection);
 bool store_commit(connection *connection);
 void store_roll_back(connection *connection);
 
-/* Rows, in such a transaction: one, the next from a number on, the greatest number, and changes that no index is told of. */
+/* Rows, in such a transaction: one, the next from a number on, the greatest number, and changes that no index is told of here. */
 bool store_get(connection *connection, uint32_t number, row *found);
 bool store_next(connection *connection, uint32_t *number, row *found);
 bool store_last(connection *connection, uint32_t *number);
