@@ -297,8 +297,8 @@ static void log_in_order(toy *toy, bool is_kept)
     restart(toy, NULL, 0);
 }
 
-/* A checkpoint is saved in two pieces, with a change of the first between them. The log is redone from the checkpoint's beginning on; or, in
- * the broken host, from its end on. */
+/* A checkpoint is saved in two pieces, with a change of the first between them. The log is redone from the checkpoint's beginning on;
+ * or, in the broken host, from its end on. */
 static void redo_since_the_beginning(toy *toy, bool is_kept)
 {
     bytes saved = {0};

@@ -3,8 +3,9 @@
  *     kills FOLDER ROWS KILLS [SEED]
  *
  * A process opens the host in FOLDER, which redoes the records of its indexes, and checks both. Then four threads write: each transaction
- * changes one to four rows of 500 bytes, and one in ten is rolled back. A fifth thread builds the second index while they go on; once it is
- * complete, it checks it, drops it, and creates it again. It cleans, and takes checkpoints. After a while the process is killed (SIGKILL). */
+ * changes one to four rows of 500 bytes, and one in ten is rolled back. A fifth thread builds the second index while they go on; once it
+ * is complete, it checks it, drops it, and creates it again. It cleans, and takes checkpoints. After a while the process is killed
+ * (SIGKILL). */
 #define _GNU_SOURCE
 #include "check.h"
 
@@ -16,7 +17,8 @@
 #include <sys/wait.h>
 #include <unistd.h>
 
-enum { WRITERS = 4, CHANGES_MOST = 4, CLEANED = 64, LOG_MOST = 2000, TIDY_EACH = 16, FIRST_MS = 100, MORE_MS = 500, OPENING_MOST_MS = 20000, KEYS = 1000000 };
+enum { WRITERS = 4, CHANGES_MOST = 4, CLEANED = 64, LOG_MOST = 2000, TIDY_EACH = 16, KEYS = 1000000 };
+enum { FIRST_MS = 100, MORE_MS = 500, OPENING_MOST_MS = 20000 };
 #define LAST_NS 1000000000
 
 /* What all processes together did: it outlives them. */
@@ -261,6 +263,7 @@ int main(int count, char **words)
     totals *all = totals_of_all;
     printf("seed %s: %d kills, %lu of them while an index was built; %lu commits, %lu rolled back, %lu builds to the end, %lu checkpoints, "
            "%lu entries cleaned, %lu bytes of records redone; %lu checks of an index, each exact\n",
-           count > 4 ? words[4] : "0", kills, all->kills_in_build, all->commits, all->rolled_back, all->builds, all->checkpoints, all->cleaned, all->redone, all->checks);
+           count > 4 ? words[4] : "0", kills, all->kills_in_build, all->commits, all->rolled_back, all->builds, all->checkpoints,
+           all->cleaned, all->redone, all->checks);
     return 0;
 }

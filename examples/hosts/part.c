@@ -18,6 +18,13 @@ uint64_t nanoseconds(void)
     return (uint64_t)now.tv_sec * 1000000000 + (uint64_t)now.tv_nsec;
 }
 
+uint64_t processor_time(void)
+{
+    struct timespec now;
+    clock_gettime(CLOCK_THREAD_CPUTIME_ID, &now);
+    return (uint64_t)now.tv_sec * 1000000000 + (uint64_t)now.tv_nsec;
+}
+
 void keep_greatest(atomic_ulong *greatest, uint64_t found)
 {
     if (found > atomic_load(greatest))
@@ -67,13 +74,6 @@ static void lock_for_change(part *part)
 static void unlock(part *part)
 {
     pthread_mutex_unlock(&part->lock);
-}
-
-static uint64_t processor_time(void)
-{
-    struct timespec now;
-    clock_gettime(CLOCK_THREAD_CPUTIME_ID, &now);
-    return (uint64_t)now.tv_sec * 1000000000 + (uint64_t)now.tv_nsec;
 }
 
 /* Returns when the hold began. */

@@ -60,8 +60,8 @@ bool part_is_visible(part *part, uint32_t number, const uint8_t *key);
 uint32_t part_life(part *part, nsf_index_pair *highest);
 range range_of(const uint8_t *low, const uint8_t *high);
 
-/* Records: those that wait for the log are appended to `waiting`, in the order of the calls. A piece of a checkpoint is appended to `piece`,
- * with the records that waited before it appended to `waiting`. */
+/* Records: those that wait for the log are appended to `waiting`, in the order of the calls. A piece of a checkpoint is appended to
+ * `piece`, with the records that waited before it appended to `waiting`. */
 uint32_t part_records(part *part, bytes *waiting);
 uint32_t part_save_life(part *part, bytes *waiting, bytes *piece);
 uint32_t part_save(part *part, bytes *waiting, nsf_index_cursor *cursor, uint32_t most, bytes *piece, bool *is_last);
@@ -74,5 +74,6 @@ uint32_t part_reopen(part *part);
 void bytes_reserve(bytes *bytes, size_t more);
 void bytes_free(bytes *bytes);
 uint64_t nanoseconds(void);
+uint64_t processor_time(void); /* of the thread that calls, in nanoseconds */
 void keep_greatest(atomic_ulong *greatest, uint64_t found);
 #endif

@@ -23,9 +23,15 @@ typedef struct writer {
     pthread_t thread;
 } writer;
 
+/* Commits a second, and microseconds of a processor that a commit took the writers. */
+typedef struct counted {
+    double rate, processor;
+} counted;
+
 static uint32_t rows;
 static double seconds = 3;
 static atomic_bool has_ended;
+static atomic_ulong processor, all_commits; /* of the writers of one count: nanoseconds of a processor, and commits */
 static atomic_ulong commits, longest; /* the longest transaction, in nanoseconds, from before it begins until it has committed */
 
 static uint64_t draw(uint64_t *random, uint64_t below)
@@ -60,7 +66,8 @@ static void *write_rows(void *of)
     writer *writer = of;
     row row;
     session *session = session_open(writer->host);
-    while (!atomic_load(&has_ended)) {
+    unsigned long made = 0;
+    for (; !atomic_load(&has_ended); made++) {
         fill(&row, &writer->random);
         uint32_t number = 1 + (uint32_t)draw(&writer->random, rows);
         uint64_t began = nanoseconds();
@@ -72,12 +79,16 @@ static void *write_rows(void *of)
         atomic_fetch_add(&commits, 1);
     }
     session_close(session);
+    atomic_fetch_add(&processor, processor_time());
+    atomic_fetch_add(&all_commits, made);
     return NULL;
 }
 
 static void start(writer *writers, host *host, putter put)
 {
     atomic_store(&has_ended, false);
+    atomic_store(&processor, 0);
+    atomic_store(&all_commits, 0);
     for (int i = 0; i < WRITERS; i++) {
         writers[i] = (writer){.host = host, .put = put, .random = (uint64_t)i + 1};
         pthread_create(&writers[i].thread, NULL, write_rows, &writers[i]);
@@ -98,16 +109,24 @@ static double since(uint64_t began)
     return (double)(nanoseconds() - began) * 1e-9;
 }
 
-/* Commits a second. */
-static double rate(host *host, putter put)
+/* Microseconds of a processor that a commit took the writers, once they have ended. */
+static double processor_each(void)
+{
+    unsigned long made = atomic_load(&all_commits);
+    return made ? (double)atomic_load(&processor) * 1e-3 / (double)made : 0;
+}
+
+/* Commits a second, and what one took. */
+static counted rate(host *host, putter put)
 {
     writer writers[WRITERS];
     start(writers, host, put);
     uint64_t began = nanoseconds();
     unsigned long before = atomic_load(&commits);
     usleep((useconds_t)(seconds * MILLION));
-    double found = (double)(atomic_load(&commits) - before) / since(began);
+    counted found = {.rate = (double)(atomic_load(&commits) - before) / since(began)};
     end(writers);
+    found.processor = processor_each();
     return found;
 }
 
@@ -141,7 +160,7 @@ static double quiet_own(session *session, int which)
 /* What is seen beside a build: commits a second, how long it took, the longest transaction, the longest time that a writer waited for the
  * build alone, and the longest time of a processor that the build held the lock of its index. */
 typedef struct beside {
-    double rate, took, longest_ms, waited_ms, held_ms, share;
+    double rate, processor, took, longest_ms, waited_ms, held_ms, share;
 } beside;
 
 static double milliseconds(unsigned long nanoseconds)
@@ -155,7 +174,7 @@ static beside beside_builds(session *session, int which)
     host *host = session->host;
     writer writers[WRITERS];
     beside seen = {.rate = 0};
-    unsigned long counted = 0, builds = 0;
+    unsigned long made = 0, builds = 0;
     start(writers, host, put_with_part);
     atomic_store(&host->parts[which].longest, 0);
     atomic_store(&host->parts[which].held, 0);
@@ -167,11 +186,12 @@ static beside beside_builds(session *session, int which)
         uint64_t began = nanoseconds();
         unsigned long before = atomic_load(&commits);
         build(session, which);
-        counted += atomic_load(&commits) - before;
+        made += atomic_load(&commits) - before;
         seen.took += since(began);
     }
     end(writers);
-    seen.rate = (double)counted / seen.took;
+    seen.processor = processor_each();
+    seen.rate = (double)made / seen.took;
     seen.longest_ms = milliseconds(atomic_load(&longest));
     seen.took /= (double)builds;
     unsigned long lock = atomic_load(&host->parts[which].longest), held = atomic_load(&host->longest);
@@ -194,7 +214,8 @@ static beside beside_own(session *session, int which)
     double took = since(began), found = (double)(atomic_load(&commits) - before) / took;
     usleep(100000);
     end(writers);
-    return (beside){.rate = found, .took = took, .longest_ms = milliseconds(atomic_load(&longest)), .waited_ms = milliseconds(atomic_load(&longest))};
+    double waited = milliseconds(atomic_load(&longest));
+    return (beside){.rate = found, .processor = processor_each(), .took = took, .longest_ms = waited, .waited_ms = waited};
 }
 
 /* ---- the rounds */
@@ -217,7 +238,8 @@ static void make_rows(const char *folder)
 }
 
 typedef struct results {
-    double none, one, two, build;
+    counted none, one, two;
+    double build;
     beside beside;
 } results;
 
@@ -264,16 +286,22 @@ static results in_folder(const char *folder, const char *name, results (*try_it)
     return try_it(path);
 }
 
+static void print_counted(const char *what, counted part, counted own)
+{
+    printf("%-44s %7.0f (%4.0f) %7.0f (%4.0f)\n", what, part.rate, part.processor, own.rate, own.processor);
+}
+
 static void print(const results *own, const results *part)
 {
     printf("%s, %u rows of %d bytes, %d writers, a transaction changes one row and both keys, no sync, %.0f s each\n", own_store, rows,
            ROW_BYTES, WRITERS, seconds);
     printf("%-44s %14s %14s\n", "", "the part", "its own way");
-    printf("%-44s %14.0f %14.0f\n", "commits a second, no index", part->none, own->none);
-    printf("%-44s %14.0f %14.0f\n", "one index", part->one, own->one);
-    printf("%-44s %14.0f %14.0f\n", "two indexes", part->two, own->two);
-    printf("%-44s %14.0f %14.0f\n", "one, and the second is being built", part->beside.rate, own->beside.rate);
-    printf("%-44s %14.2f %14.2f\n", "  of those with two (goal: 0.8)", part->beside.rate / part->two, own->beside.rate / own->two);
+    print_counted("commits a second (processor us), no index", part->none, own->none);
+    print_counted("one index", part->one, own->one);
+    print_counted("two indexes", part->two, own->two);
+    counted part_beside = {part->beside.rate, part->beside.processor}, own_beside = {own->beside.rate, own->beside.processor};
+    print_counted("one, and the second is being built", part_beside, own_beside);
+    printf("%-44s %14.2f %14.2f\n", "  of those with two (goal: 0.8)", part_beside.rate / part->two.rate, own_beside.rate / own->two.rate);
     printf("%-44s %14.3f %14.3f\n", "  longest wait for the build, ms (goal: 1)", part->beside.waited_ms, own->beside.waited_ms);
     printf("%-44s %14.3f\n", "  share of the time that a writer waited so", part->beside.share);
     printf("%-44s %14.3f\n", "  longest hold of its lock, processor ms", part->beside.held_ms);

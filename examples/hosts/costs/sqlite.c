@@ -12,8 +12,8 @@ static void execute(session *session, const char *sql)
 
 void own_begin(session *session)
 {
-    execute(session, "DROP TRIGGER rows_inserted; DROP TRIGGER rows_to_be_updated; DROP TRIGGER rows_updated; DROP TRIGGER rows_to_be_deleted;"
-                     "DROP TRIGGER rows_numbered");
+    execute(session, "DROP TRIGGER rows_inserted; DROP TRIGGER rows_to_be_updated; DROP TRIGGER rows_updated;"
+                     "DROP TRIGGER rows_to_be_deleted; DROP TRIGGER rows_numbered");
 }
 
 void own_create(session *session, int which)

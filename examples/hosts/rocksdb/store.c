@@ -143,11 +143,11 @@ bool store_get(connection *connection, uint32_t number, row *found)
     char key[NUMBER_BYTES], *failed = NULL, *value;
     size_t length = 0;
     write_number(key, number, NUMBER_BYTES);
+    rocksdb_column_family_handle_t *rows = store->families[ROWS];
     if (connection->session->is_writing)
-        value = rocksdb_transaction_get_cf(connection->writing, store->reading, store->families[ROWS], key, NUMBER_BYTES, &length, &failed);
+        value = rocksdb_transaction_get_cf(connection->writing, store->reading, rows, key, NUMBER_BYTES, &length, &failed);
     else
-        value = rocksdb_transaction_get_for_update_cf(connection->writing, store->reading, store->families[ROWS], key, NUMBER_BYTES, &length,
-                                                      1, &failed);
+        value = rocksdb_transaction_get_for_update_cf(connection->writing, store->reading, rows, key, NUMBER_BYTES, &length, 1, &failed);
     if (failed && connection->session->is_writing)
         stop("get", failed);
     connection->is_refused |= failed != NULL;

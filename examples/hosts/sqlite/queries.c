@@ -44,8 +44,9 @@ void store_try(session *session)
     expect(change_by(session, "UPDATE rows SET a = b WHERE number <= 200"), "an update of many rows");
     expect(change_by(session, "DELETE FROM rows WHERE number IN (SELECT number FROM online_index_range(x'00', x'0000000000000fff'))"),
            "rows found by the index are deleted");
-    expect(change_by(session, "INSERT INTO rows(a, b, rest) SELECT b, a, rest FROM rows WHERE number <= 100"), "rows with numbers of SQLite");
+    expect(change_by(session, "INSERT INTO rows(a, b, rest) SELECT b, a, rest FROM rows WHERE number <= 100"),
+           "rows with numbers of SQLite");
     expect(!change_by(session, "UPDATE rows SET a = iif(number = 90, x'00', b) WHERE number <= 100"), "a key of one byte is refused");
     expect(!change_by(session, "UPDATE rows SET number = number + 1000000 WHERE number = 90"), "a row keeps its number");
-    expect(sqlite3_exec(session->connection->database, "DELETE FROM rows", NULL, NULL, NULL) != SQLITE_OK, "a change by no session");
+    expect(sqlite3_exec(session->connection->database, "DELETE FROM rows", NULL, NULL, NULL) != SQLITE_OK, "no change without a session");
 }

@@ -1,5 +1,5 @@
-/* A table of SQL: online_index_range(LOW, HIGH [, WHICH]) has the columns key and number, a row for each entry of the index from the key LOW
- * to the key HIGH, in their order. A bound may have fewer than 16 bytes: then it is that of the first key, or the last one, that begins so.
+/* A table of SQL: online_index_range(LOW, HIGH [, WHICH]) has the columns key and number, a row for each entry of the index from the key
+ * LOW to the key HIGH, in their order. A bound may have fewer than 16 bytes: then it is the first key, or the last one, that begins so.
  *
  * In a transaction that writes it shows that transaction's changes. Otherwise each stretch of 256 entries is what was committed at one
  * moment. */

@@ -1,5 +1,6 @@
 /* Rows and records in SQLite: a table of rows, and one of records, in one file with a write-ahead log. Triggers tell the indexes of each
- * change, so that any statement of SQL may change rows. (A row that comes has no pair before, so that it may be prepared once it is there.) */
+ * change, so that any statement of SQL may change rows. (A row that comes has no pair before, so that it may be prepared once it is
+ * there.) */
 #include "connection.h"
 
 #include <stdio.h>
@@ -63,7 +64,8 @@ static sqlite3 *open_database(const store *store)
     if (sqlite3_open_v2(store->path, &database, flags, NULL) != SQLITE_OK)
         stop("open", sqlite3_errmsg(database));
     sqlite3_busy_timeout(database, BUSY_MS);
-    if (sqlite3_exec(database, "PRAGMA journal_mode = WAL; PRAGMA recursive_triggers = ON; PRAGMA cache_size = -65536;", NULL, NULL, NULL) ||
+    const char *settings = "PRAGMA journal_mode = WAL; PRAGMA recursive_triggers = ON; PRAGMA cache_size = -65536";
+    if (sqlite3_exec(database, settings, NULL, NULL, NULL) ||
         sqlite3_exec(database, store->is_synced ? "PRAGMA synchronous = FULL" : "PRAGMA synchronous = OFF", NULL, NULL, NULL))
         stop("open", sqlite3_errmsg(database));
     return database;
