@@ -11,7 +11,7 @@ enum {
     PIECE_ENTRIES = 512, /* entries of a checkpoint that are saved at a time */
     SWEPT = 64,          /* old records that are removed at a time */
     MOVED = 256,          /* changes of a transaction after which records are moved out of the indexes */
-    FEW_STEPS = 16,       /* the builder's stretch while transactions commit */
+    FEW_STEPS = 8,        /* the builder's stretch while transactions commit */
     MANY_STEPS = 256,     /* the builder's stretch otherwise */
     UNLOGGED_MOST = 2048, /* steps of the builder that may wait for a commit */
     RESTS = 3            /* while transactions commit, the builder rests so many times as long as it works */
