@@ -8,13 +8,13 @@
 #include <time.h>
 
 enum {
-    PIECE_ENTRIES = 512, /* entries of a checkpoint that are saved at a time */
-    SWEPT = 64,          /* old records that are removed at a time */
-    MOVED = 256,          /* changes of a transaction after which records are moved out of the indexes */
+    PIECE_ENTRIES = 512,  /* entries of a checkpoint that are saved at a time */
+    SWEPT = 64,           /* old records that are removed at a time */
+    TOLD_MOST = 256,      /* changes of a transaction after which records are moved out of the indexes */
     FEW_STEPS = 8,        /* the builder's stretch while transactions commit */
     MANY_STEPS = 256,     /* the builder's stretch otherwise */
     UNLOGGED_MOST = 2048, /* steps of the builder that may wait for a commit */
-    RESTS = 3            /* while transactions commit, the builder rests so many times as long as it works */
+    RESTS = 3             /* while transactions commit, the builder rests so many times as long as it works */
 };
 
 static const record_key STATE = {.stream = 0, .place = 0};
@@ -54,6 +54,7 @@ static bool reserve_changes(host *host)
 static void add_change(host *host, int which, uint32_t number, const row *old, const row *next)
 {
     change *change = &host->changes[host->count++];
+    host->told++;
     memset(change, 0, sizeof *change);
     change->which = which;
     change->number = number;
@@ -69,6 +70,7 @@ static void add_change(host *host, int which, uint32_t number, const row *old, c
 static void take_back(host *host, const change *change)
 {
     part *part = &host->parts[change->which];
+    host->told++;
     stop_if(part_prepare(part, change->number, change->has ? change->next : NULL, change->had ? change->old : NULL), "take back");
     if (change->had)
         stop_if(part_put(part, change->number, change->old), "take back");
@@ -80,13 +82,14 @@ static void move_records(host *host)
     for (int which = 0; which < INDEXES; which++)
         if (host->parts[which].is_open)
             stop_if(part_records(&host->parts[which], &host->waiting[which]), "records");
+    host->told = 0;
 }
 
 static void take_back_to(host *host, size_t count)
 {
     while (host->count > count) {
         take_back(host, &host->changes[--host->count]);
-        if (host->count % MOVED == 0)
+        if (host->told >= TOLD_MOST)
             move_records(host);
     }
 }
@@ -102,7 +105,7 @@ uint32_t host_prepare(host *host, uint32_t number, const row *old, const row *ne
     size_t before = host->count;
     if (!reserve_changes(host))
         return NSF_INDEX_NO_MEMORY;
-    if (host->count % MOVED == 0)
+    if (host->told >= TOLD_MOST)
         move_records(host);
     for (int which = 0; which < INDEXES; which++) {
         if (!is_touched(host, which, old, next))

@@ -5,7 +5,7 @@
  *      locks of its rows instead, and enters `writing` to commit: the indexes are told of its changes only then.
  *  H3  host_prepare is called before a row changes, and host_put after it: by session_put, by the triggers of SQLite, and for RocksDB
  *      before the commit, which is what changes the rows there.
- *  H4  host.c keeps the changes of the open transaction, and takes them back in the reverse order.
+ *  H4  host.c keeps the changes that a transaction told, and takes them back in the reverse order.
  *  H5  The builder reads its pages from snapshots of the store, with no lock.
  *  H6  host_create_index holds `writing`, and so no change is under way; it names the pages of all rows.
  *  H7  The cleaner holds `writing`, and so no change waits for its end.
@@ -18,7 +18,7 @@
 
 enum { ENTRIES_MOST = 4000000 };
 
-/* A change of the open transaction, for one index. */
+/* A change of the transaction that tells the indexes, for one of them. */
 typedef struct change {
     int which;
     uint32_t number;
@@ -35,18 +35,20 @@ typedef struct streams {
 } streams;
 
 typedef struct host {
-    pthread_mutex_t writing;
-    part parts[INDEXES];
-    bytes waiting[INDEXES];      /* records that no commit has logged yet; under `writing` */
-    streams streams[INDEXES];    /* under `writing` */
-    atomic_ulong next[INDEXES];  /* the next place of the log; set under `writing` */
-    atomic_ulong logged[INDEXES]; /* how many of the builder's steps were logged */
-    change *changes;             /* of the open transaction; under `writing` */
-    size_t count, room;
     store *store;
-    atomic_ulong seen;           /* how many commits there were at the builder's last stretch */
-    atomic_ulong commits, redone; /* redone: bytes of records */
-    atomic_ulong longest; /* the longest time that `writing` was held for the builder or the cleaner, in nanoseconds */
+    pthread_mutex_t writing;      /* held by the transaction that tells the indexes, or by the cleaner */
+    part parts[INDEXES];
+    bytes waiting[INDEXES];       /* records that no commit has logged yet; under `writing` */
+    streams streams[INDEXES];     /* under `writing` */
+    change *changes;              /* of the transaction that tells the indexes; under `writing` */
+    size_t count, room;
+    size_t told;                  /* how many changes the indexes were told since their records were moved; under `writing` */
+    atomic_ulong next[INDEXES];   /* the next place of the log; set under `writing` */
+    atomic_ulong logged[INDEXES]; /* how many of the builder's steps were logged */
+    atomic_ulong commits;         /* of rows */
+    atomic_ulong seen;            /* how many commits there were at the builder's last stretch */
+    atomic_ulong redone;          /* how many bytes of records opening has redone */
+    atomic_ulong longest;         /* the longest time that `writing` was held for the builder or the cleaner, in nanoseconds */
 } host;
 
 /* What a thread has of a host. */
