@@ -33,7 +33,7 @@ compile() {
 kill_host() {
     # shellcheck disable=SC2086
     compile kills "$2" part.c host.c $4 check.c kills.c "$1"/*.c
-    "$work/kills" "$work/folder" "${ROWS:-8000}" "${3:-20}" "${SEED:-$$}"
+    "$work/kills" "$work/folder" "${ROWS:-5000}" "${3:-20}" "${SEED:-$$}"
 }
 
 cost_host() {
