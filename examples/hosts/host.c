@@ -244,16 +244,17 @@ static void sweep(session *session, int which)
     uint64_t first = streams->saved && streams->saved < streams->log ? streams->saved : streams->log;
     uint64_t second = first == streams->log ? streams->saved : streams->log;
     record_key ranges[][2] = {
-        {key_of(which, 1, 0), key_of(which, first, first == streams->log ? streams->from : 0)},
+        {key_of(which, session->host->swept[which] + 1, 0), key_of(which, first, first == streams->log ? streams->from : 0)},
         {key_of(which, first + 1, 0), key_of(which, second, second == streams->log ? streams->from : 0)},
         {key_of(which, (second > first ? second : first) + 1, 0), key_of(which + 1, 0, 0)},
     };
     for (size_t i = 0; i < sizeof ranges / sizeof *ranges; i++)
         for (uint32_t removed = SWEPT; removed == SWEPT;) {
             host_begin(session);
-            removed = store_remove(session->connection, ranges[i][0], ranges[i][1], SWEPT);
+            removed = store_remove(session->connection, &ranges[i][0], ranges[i][1], SWEPT);
             commit_or_stop(session, "sweep");
         }
+    session->host->swept[which] = first - 1;
 }
 
 void host_drop_index(session *session, int which)

@@ -43,6 +43,7 @@ typedef struct host {
     change *changes;              /* of the transaction that tells the indexes; under `writing` */
     size_t count, room;
     size_t told;                  /* how many changes the indexes were told since their records were moved; under `writing` */
+    uint64_t swept[INDEXES];      /* no stream up to this one has records any more */
     atomic_ulong next[INDEXES];   /* the next place of the log; set under `writing` */
     atomic_ulong logged[INDEXES]; /* how many of the builder's steps were logged */
     atomic_ulong commits;         /* of rows */

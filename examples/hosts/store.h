@@ -42,11 +42,12 @@ void store_delete(connection *connection, uint32_t number);
 /* The pairs of a page's rows for an index, from a snapshot of what is committed: no lock is held. Their number is returned. */
 size_t store_read_page(connection *connection, int which, uint32_t page, nsf_index_pair *pairs);
 
-/* Records, in a transaction that writes. The last two end before the key `high`; removing ends after so many, and returns how many. */
+/* Records, in a transaction that writes. The last two end before the key `high`; removing ends after so many,
+ * returns how many, and may move `low` past them: RocksDB goes slowly over what was removed. */
 typedef void (*visitor)(void *context, uint64_t place, const uint8_t *bytes, size_t length);
 void store_write(connection *connection, record_key key, const uint8_t *bytes, size_t length);
 void store_each(connection *connection, record_key low, record_key high, visitor visit, void *context);
-uint32_t store_remove(connection *connection, record_key low, record_key high, uint32_t most);
+uint32_t store_remove(connection *connection, record_key *low, record_key high, uint32_t most);
 
 /* Checks a complete index further, by means of the store's own, in a transaction that writes. */
 bool store_check(connection *connection, int which);

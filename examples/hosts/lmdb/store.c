@@ -254,10 +254,10 @@ void store_each(connection *connection, record_key low, record_key high, visitor
     mdb_cursor_close(cursor);
 }
 
-uint32_t store_remove(connection *connection, record_key low, record_key high, uint32_t most)
+uint32_t store_remove(connection *connection, record_key *low, record_key high, uint32_t most)
 {
     uint8_t room[RECORD_KEY_BYTES];
-    MDB_val key = spell_key(room, low), value;
+    MDB_val key = spell_key(room, *low), value;
     MDB_cursor *cursor = cursor_of(connection->writing, connection->store->records);
     uint32_t removed = 0;
     int failed = mdb_cursor_get(cursor, &key, &value, MDB_SET_RANGE);

@@ -282,9 +282,9 @@ void store_each(connection *connection, record_key low, record_key high, visitor
     rocksdb_iter_destroy(iterator);
 }
 
-uint32_t store_remove(connection *connection, record_key low, record_key high, uint32_t most)
+uint32_t store_remove(connection *connection, record_key *low, record_key high, uint32_t most)
 {
-    rocksdb_iterator_t *iterator = records_from(connection, low);
+    rocksdb_iterator_t *iterator = records_from(connection, *low);
     uint32_t removed = 0;
     for (; removed < most && is_below(iterator, high); removed++) {
         char name[RECORD_KEY_BYTES];
@@ -292,6 +292,8 @@ uint32_t store_remove(connection *connection, record_key low, record_key high, u
         memcpy(name, rocksdb_iter_key(iterator, &length), RECORD_KEY_BYTES);
         rocksdb_iter_next(iterator);
         delete_value(connection, RECORDS, name, RECORD_KEY_BYTES);
+        low->stream = read_number(name + 1, 8);
+        low->place = read_number(name + 9, 8) + 1;
     }
     rocksdb_iter_destroy(iterator);
     return removed;

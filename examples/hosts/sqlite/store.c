@@ -308,10 +308,10 @@ void store_each(connection *connection, record_key low, record_key high, visitor
     sqlite3_reset(statement);
 }
 
-uint32_t store_remove(connection *connection, record_key low, record_key high, uint32_t most)
+uint32_t store_remove(connection *connection, record_key *low, record_key high, uint32_t most)
 {
     sqlite3_stmt *statement = take(connection, REMOVE);
-    bind_key(statement, 1, low);
+    bind_key(statement, 1, *low);
     bind_key(statement, 4, high);
     sqlite3_bind_int64(statement, 7, most);
     run_or_stop(connection, statement, "remove");
