@@ -96,7 +96,7 @@ def misquoted(text):
 
 def c_faults(text):
     """Each call in a block of C that the headers don't have, or that has more or fewer arguments there."""
-    headers = "".join(path.read_text() for path in sorted(TOP.glob("crates/nsf_c/include/*.h")))
+    headers = "".join(path.read_text() for path in sorted(TOP.glob("crates/*/include/*.h")))
     declared = {name: parameters.count(",") for name, parameters in C_DECLARED.findall(headers)}
     for block in C_CODE.finditer(text):
         for name, arguments in C_CALL.findall(block[1]):
