@@ -57,7 +57,8 @@ def index_number_faults(header):
                                  ("RECORD_MAX", "NOTE_MAX", "online_notes/src/writing.rt"),
                                  ("ENTRIES_MIN", "ENTRIES_MIN", "record_values/src/geometry.rt"),
                                  ("ENTRIES_MAX", "LARGE_ENTRIES_MAX", "record_values/src/geometry.rt")):
-        wanted[name] = int(re.search(rf"const {constant}: \w+ = ([\d_]+)", text(path))[1].replace("_", ""))
+        terms = re.search(rf"const {constant}: \w+ = ([^;]+);", text(path))[1].split(" + ")
+        wanted[name] = sum(wanted[term] if term in wanted else int(term.replace("_", "")) for term in terms)
     found = {name: int(number) for name, number in re.findall(r"\bNSF_INDEX_(\w+) = (\d+)", header)}
     if found != wanted:
         yield f"numbers differ: {set(found.items()) ^ set(wanted.items())}"
