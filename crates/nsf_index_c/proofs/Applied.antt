@@ -1,5 +1,5 @@
 -- Changes one after another.
-use Rattle.std.proofs.Common.{◌≡◌, ◌⊎◌, inl, inr, ℕ, ◌+◌, ◌<◌, List, [], ◌∷◌, ◌++◌, length, take, refl, sym, subst, ◌∙◌, arith}
+use Rattle.std.proofs.Common.{◌≡◌, inl, inr, ℕ, ◌+◌, ◌<◌, List, [], ◌∷◌, ◌++◌, length, take, sym, subst, arith}
 use Rattle.nsf_index_c.specs.Applying.{Applies, AreMade, MakesOne, one_more}
 use Rattle.nsf_index_c.specs.Changing.{Makes}
 use Rattle.nsf_index_c.specs.Seen.{Seen}

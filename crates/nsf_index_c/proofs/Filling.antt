@@ -1,7 +1,7 @@
 -- Entries are put one after another, and pairs are read so.
-use Rattle.std.proofs.Common.{◌≡◌, ◌⊎◌, inl, inr, ℕ, ◌+◌, ◌<◌, List, [], ◌∷◌, ◌++◌, length, drop, map}
+use Rattle.std.proofs.Common.{◌≡◌, inl, inr, ℕ, ◌+◌, ◌<◌, List, [], ◌∷◌, ◌++◌, length, drop, map}
 use Rattle.std.proofs.Common.{slice_set, get_or, Option, Some, refl, sym, subst, ◌∙◌, ap, arith}
-use Rattle.std.proofs.lemmas.List.{append_assoc, drop_more, length_push, length-map, map_push, set_at, take_more, take-append-drop}
+use Rattle.std.proofs.lemmas.List.{append_assoc, drop_more, length_push, length-map, map_push, set_at, take-append-drop}
 use Rattle.std.proofs.Common.{take}
 use Rattle.btree_node.specs.Above.{IsLeastAbove}
 use Rattle.record_values.specs.Entries.{Index}

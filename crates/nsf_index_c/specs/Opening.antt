@@ -7,7 +7,7 @@ use Rattle.online_model.specs.World as step
 use Rattle.online_model.specs.World.{World, after}
 use Rattle.online_model.specs.declared.note.Note.{Note}
 use Rattle.online_index.specs.Standing.{IsAdding, StandsFor}
-use Rattle.online_index.specs.Value.{IndexValue, IsFull, created, held_by, reopened}
+use Rattle.online_index.specs.Value.{IsFull, created, held_by, reopened}
 use Rattle.online_notes.specs.Spelling.{IsWritable, bytes_of}
 use Rattle.nsf_index_c.specs.Handles.{Holds, IsOpen, IsVacant}
 use Rattle.nsf_index_c.specs.Seen.{Seen}

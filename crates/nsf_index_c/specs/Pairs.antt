@@ -1,5 +1,5 @@
 -- Pairs, cursors and changes as C has them.
-use Rattle.std.specs.Prelude.{◌≡◌, ◌⊎◌, ◌<◌, ◌≤◌, ◌++◌, ℕ, List, [], ◌∷◌, length}
+use Rattle.std.specs.Prelude.{◌≡◌, ◌⊎◌, ◌<◌, ◌≤◌, ◌++◌, ℕ, List, length}
 use Rattle.std.specs.Prelude.{take, drop, replicate, Option, Some, None}
 use Rattle.record_values.specs.declared.key.TheConstants.{KEY_MAX}
 use Rattle.record_values.specs.declared.pair.Mark.{Mark}

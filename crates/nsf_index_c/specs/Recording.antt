@@ -1,5 +1,5 @@
 -- Records of notes, as C takes them.
-use Rattle.std.specs.Prelude.{◌≡◌, ◌⊎◌, ◌++◌, ◌/◌, ◌<◌, ◌≤◌, ℕ, List, [], ◌∷◌, length}
+use Rattle.std.specs.Prelude.{◌≡◌, ◌⊎◌, ◌++◌, ◌/◌, ◌<◌, ℕ, List, [], ◌∷◌, length}
 use Rattle.std.specs.Prelude.{take, drop, min, true, false, Option}
 use Rattle.online_model.specs.declared.note.Note.{Note}
 use Rattle.online_model.specs.declared.note.Note.TheVariants.{LifeIs}

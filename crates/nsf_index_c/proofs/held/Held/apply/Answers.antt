@@ -1,4 +1,4 @@
-use Rattle.std.proofs.Common.{arith, refl, ◌+◌}
+use Rattle.std.proofs.Common.{arith, refl}
 use Rattle.std.proofs.lemmas.List.{take_more}
 use Rattle.nsf_index_c.specs.Applying.{none_made}
 use Rattle.nsf_index_c.proofs.Applied.{made_more, stopped}

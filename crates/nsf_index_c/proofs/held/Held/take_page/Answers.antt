@@ -1,4 +1,4 @@
-use Rattle.std.proofs.Common.{◌≡◌, false, inl, inr, refl, rules, subst, Option, IfNone, IfSome, List, ℕ}
+use Rattle.std.proofs.Common.{◌≡◌, false, inl, inr, refl, rules, subst, IfNone, List, ℕ}
 use Rattle.std.proofs.lemmas.Bool.{false≢true}
 use Rattle.record_values.specs.declared.pair.Pair.{Pair}
 use Rattle.online_index.specs.Pages.{IsPage}
