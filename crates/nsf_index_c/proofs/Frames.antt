@@ -29,13 +29,13 @@ frame_more ns i n used len old bytes record_ rest part inside here spelled is lo
     let front : take used bytes ≡ before = ap (take used) spelled.front ∙ take_at before (drop used old) used (sym spelled.number) in
     let tail : drop used bytes ≡ drop used old = ap (drop used) spelled.front ∙ drop_at before (drop used old) used (sym spelled.number) in
     let end : drop (length bytes - used) (drop used bytes) ≡ [] =
-        drop_all (length bytes - used) (drop used bytes) (omega (arith, length-drop used bytes)) in
+    drop_all (length bytes - used) (drop used bytes) (omega (arith, length-drop used bytes)) in
     let one : part ≡ frame_of n ++ drop (used + (len + 1)) old =
-        put
-        ∙ ap (λ bs. (length record_ ∷ record_) ++ bs)
-        (ap (drop (length record_ + 1)) (after ∙ tail) ∙ drop-drop (length record_ + 1) used old
-            ∙ ap (λ k. drop (used + (k + 1)) old) (sym long))
-        ∙ ap (λ r. (length r ∷ r) ++ drop (used + (len + 1)) old) is in
+    put
+    ∙ ap (λ bs. (length record_ ∷ record_) ++ bs)
+    (ap (drop (length record_ + 1)) (after ∙ tail) ∙ drop-drop (length record_ + 1) used old
+    ∙ ap (λ k. drop (used + (k + 1)) old) (sym long))
+    ∙ ap (λ r. (length r ∷ r) ++ drop (used + (len + 1)) old) is in
     record {
       number = omega (arith, ap length frames, length-append before (frame_of n), spelled.number, long, ap length is);
       front = ap (λ a. a ++ (part ++ drop (length bytes - used) (drop used bytes))) front ∙ ap (λ b. before ++ (part ++ b)) end

@@ -11,6 +11,6 @@ loop-at-preserved c = (
   filled_more c.args.self.now.index.entries c.args.above c.loop-at.passed (option_copied c.as_ref.result) c.loop-at.at c.args.entries.now
       c.loop-at.entries c.in-Some.pair c.in-Some.mark c.told.result c.loop-at-test.true c.loop-at.invariant.1 c.as_ref.ensures.value
       (subst (λ (v : Seen). IsLeastAbove v.index.entries (option_copied c.as_ref.result) (Some (c.in-Some.pair, c.in-Some.mark)))
-          c.self.view_is c.in-Some.ensures)
+      c.self.view_is c.in-Some.ensures)
       c.told.ensures,
 )
